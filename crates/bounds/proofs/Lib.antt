@@ -1,0 +1,4 @@
+pub mod Laws
+pub mod Squares
+pub mod Bits
+pub mod LowBits

@@ -1,0 +1,40 @@
+-- The records with nothing in them: "Places at or above the count are zero, and so is the normal when the count is 0." Definitions only.
+use lib.ListN.{replicate}
+use lib.Ieee.{nan}
+use Rattle.vector.specs.Rounded.{float}
+use Rattle.vector.specs.Arithmetic.{zeroVec}
+use Rattle.vector.specs.Shape.{pastVec}
+use Rattle.manifold.specs.declared.FeaturePair.{FeaturePair}
+use Rattle.manifold.specs.declared.ClipVertex.{ClipVertex}
+use Rattle.manifold.specs.declared.Polygon.{Polygon}
+use Rattle.manifold.specs.declared.Point.{Point}
+use Rattle.manifold.specs.declared.Contact.{Contact}
+use Rattle.manifold.specs.declared.SatCache.{SatCache}
+
+abbrev pub zeroPair : FeaturePair
+zeroPair = record { owner1 = 0; index1 = 0; owner2 = 0; index2 = 0 }
+
+abbrev pub zeroVertex : ClipVertex
+zeroVertex = record { position = zeroVec; separation = float 0; pair = zeroPair }
+
+abbrev pub zeroPoint : Point
+zeroPoint = record { position = zeroVec; separation = float 0; pair = zeroPair }
+
+-- no corners, 64 zero places
+abbrev pub emptyPolygon : Polygon
+emptyPolygon = record { vertices = replicate 64 zeroVertex; count = 0 }
+
+-- no points, four zero places, a zero normal
+abbrev pub emptyContact : Contact
+emptyContact = record { points = replicate 4 zeroPoint; normal = zeroVec; count = 0 }
+
+-- the cache cleared
+abbrev pub emptyCache : SatCache
+emptyCache = record { separation = 0; kind = 0; «index_a» = 0; «index_b» = 0; hit = 0 }
+
+-- what the logic's `getD` finds past the end of an array of corners, and of points
+abbrev pub pastVertex : ClipVertex
+pastVertex = record { position = pastVec; separation = nan; pair = zeroPair }
+
+abbrev pub pastPoint : Point
+pastPoint = record { position = pastVec; separation = nan; pair = zeroPair }

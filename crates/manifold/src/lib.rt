@@ -1,0 +1,75 @@
+// The records that contacts are made of, the limits that decide a contact, tags of points, and the way between floats and their bits.
+// From constants.rs and manifold/types.rs; `flip_pair` from clip.rs.
+
+pub mod bits;
+pub mod limits;
+pub mod pairs;
+pub mod records;
+
+use vector::Vec3;
+
+// The most vertices of a clipped polygon, and the most points of a contact.
+pub const MAX_CLIP_POINTS: usize = 64;
+
+pub const MAX_MANIFOLD_POINTS: usize = 4;
+
+// The axis that the last call found: how far apart, its kind and what it joins, and whether it served again.
+// The separation is a bit pattern, since a NaN's bits must be kept.
+#[repr(C)]
+pub struct SatCache {
+    pub separation: u32,
+    pub kind: u8,
+    pub index_a: u8,
+    pub index_b: u8,
+    pub hit: u8,
+}
+
+// The tag of a point: the two edges that meet in it, each with the shape that owns it (0 is A, 1 is B).
+#[repr(C)]
+pub struct FeaturePair {
+    pub owner1: u8,
+    pub index1: u8,
+    pub owner2: u8,
+    pub index2: u8,
+}
+
+// A corner of the polygon that is being cut, and its distance from the reference face.
+pub struct ClipVertex {
+    pub position: Vec3,
+    pub separation: f32,
+    pub pair: FeaturePair,
+}
+
+// At most 64 corners; the places at and above the count are zero.
+pub struct Polygon {
+    pub vertices: [ClipVertex; MAX_CLIP_POINTS],
+    pub count: usize,
+}
+
+#[repr(C)]
+pub struct Point {
+    pub position: Vec3,
+    pub separation: f32,
+    pub pair: FeaturePair,
+}
+
+// At most four points; the places at and above the count are zero, and so is the normal where the count is 0.
+#[repr(C)]
+pub struct Contact {
+    pub points: [Point; MAX_MANIFOLD_POINTS],
+    pub normal: Vec3,
+    pub count: u8,
+}
+
+// The status is 0, or the number of the refusal.
+#[repr(C)]
+pub struct Outcome {
+    pub status: u8,
+    pub contact: Contact,
+}
+
+// What one call returns, and the next cache.
+pub struct Answer {
+    pub outcome: Outcome,
+    pub cache: SatCache,
+}

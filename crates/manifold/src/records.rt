@@ -1,0 +1,84 @@
+// The records with nothing in them.
+ghost use mathlib.Core.Path.{_≡_};
+ghost use Rattle.manifold.specs.Records.{zeroVertex, zeroPoint, emptyPolygon, emptyContact, emptyCache};
+use crate::ClipVertex;
+use crate::Contact;
+use crate::FeaturePair;
+use crate::Point;
+use crate::Polygon;
+use crate::SatCache;
+use vector::Vec3;
+
+pub fn zero_vertex() -> ClipVertex
+    ensures { λ r. ⌜ r ≡ zeroVertex ⌝ }
+{
+    ClipVertex {
+        position: Vec3 {
+            x: 0.0,
+            y: 0.0,
+            z: 0.0,
+        },
+        separation: 0.0,
+        pair: FeaturePair {
+            owner1: 0,
+            index1: 0,
+            owner2: 0,
+            index2: 0,
+        },
+    }
+}
+
+pub fn empty_polygon() -> Polygon
+    ensures { λ r. ⌜ r ≡ emptyPolygon ⌝ }
+{
+    let zero = zero_vertex();
+    let vertices = [zero; 64];
+    Polygon { vertices, count: 0 }
+}
+
+pub fn zero_point() -> Point
+    ensures { λ r. ⌜ r ≡ zeroPoint ⌝ }
+{
+    Point {
+        position: Vec3 {
+            x: 0.0,
+            y: 0.0,
+            z: 0.0,
+        },
+        separation: 0.0,
+        pair: FeaturePair {
+            owner1: 0,
+            index1: 0,
+            owner2: 0,
+            index2: 0,
+        },
+    }
+}
+
+pub fn empty_contact() -> Contact
+    ensures { λ r. ⌜ r ≡ emptyContact ⌝ }
+{
+    let zero = zero_point();
+    let points = [zero; 4];
+    Contact {
+        points,
+        normal: Vec3 {
+            x: 0.0,
+            y: 0.0,
+            z: 0.0,
+        },
+        count: 0,
+    }
+}
+
+pub fn empty_cache() -> SatCache
+    ensures { λ r. ⌜ r ≡ emptyCache ⌝ }
+{
+    SatCache {
+        separation: 0,
+        kind: 0,
+        index_a: 0,
+        index_b: 0,
+        hit: 0,
+    }
+}

@@ -1,0 +1,10 @@
+pub mod Squares
+pub mod Facts
+pub mod Normal
+pub mod Rounding
+pub mod Values
+pub mod Special
+pub mod Meaning
+pub mod Closest
+pub mod Unique
+pub mod Worked

@@ -1,0 +1,7 @@
+pub mod Rounded
+pub mod Scalar
+pub mod Arithmetic
+pub mod Rotation
+pub mod Shape
+pub mod Awaited
+pub mod Bounded

@@ -1,0 +1,230 @@
+//! Safe calls of the proved layers, one by one, through the static library of the crate `probes`.
+//! Each record has the fields of its Rattle original in their order; where a function there requires something, it is
+//! tested here.
+
+/// Three numbers.
+#[derive(Debug, Clone, Copy)]
+#[repr(C)]
+pub struct Vec3 {
+    pub x: f32,
+    pub y: f32,
+    pub z: f32,
+}
+
+#[derive(Debug, Clone, Copy)]
+#[repr(C)]
+pub struct Quat {
+    pub v: Vec3,
+    pub s: f32,
+}
+
+#[derive(Debug, Clone, Copy)]
+#[repr(C)]
+pub struct Transform {
+    pub p: Vec3,
+    pub q: Quat,
+}
+
+#[derive(Debug, Clone, Copy)]
+#[repr(C)]
+pub struct Plane {
+    pub normal: Vec3,
+    pub offset: f32,
+}
+
+#[derive(Debug, Clone, Copy)]
+#[repr(C)]
+pub struct Aabb {
+    pub lower: Vec3,
+    pub upper: Vec3,
+}
+
+/// Every helper on two vectors and a number.
+#[derive(Debug, Clone, Copy)]
+#[repr(C)]
+pub struct Vectors {
+    pub sum: Vec3,
+    pub difference: Vec3,
+    pub opposite: Vec3,
+    pub size: Vec3,
+    pub across: Vec3,
+    pub scaled: Vec3,
+    pub onward: Vec3,
+    pub back: Vec3,
+    pub between: Vec3,
+    pub unit: Vec3,
+    pub along: f32,
+    pub square: f32,
+    pub least: f32,
+    pub greatest: f32,
+}
+
+/// A vector turned and carried every way.
+#[derive(Debug, Clone, Copy)]
+#[repr(C)]
+pub struct Rotations {
+    pub by_rows: Vec3,
+    pub by_columns: Vec3,
+    pub turned: Vec3,
+    pub turned_back: Vec3,
+    pub carried: Vec3,
+    pub carried_back: Vec3,
+    pub inverse: Transform,
+}
+
+/// A plane and a point, and a box.
+#[derive(Debug, Clone, Copy)]
+#[repr(C)]
+pub struct Shapes {
+    pub separation: f32,
+    pub through: Plane,
+    pub center: Vec3,
+    pub extents: Vec3,
+}
+
+/// The three awaited helpers.
+#[derive(Debug, Clone, Copy)]
+#[repr(C)]
+pub struct Lines {
+    pub perp: Vec3,
+    pub point1: Vec3,
+    pub point2: Vec3,
+    pub s1: f32,
+    pub s2: f32,
+    pub within: bool,
+}
+
+/// Four lanes.
+#[derive(Debug, Clone, Copy)]
+#[repr(C)]
+pub struct FloatW {
+    pub x: f32,
+    pub y: f32,
+    pub z: f32,
+    pub w: f32,
+}
+
+#[derive(Debug, Clone, Copy, PartialEq, Eq)]
+#[repr(C)]
+pub struct FeaturePair {
+    pub owner1: u8,
+    pub index1: u8,
+    pub owner2: u8,
+    pub index2: u8,
+}
+
+/// A flipped pair, or refusal 8 and four zeros.
+#[derive(Debug, Clone, Copy, PartialEq, Eq)]
+#[repr(C)]
+pub struct Flipped {
+    pub status: u8,
+    pub pair: FeaturePair,
+}
+
+#[derive(Debug, Clone, Copy)]
+#[repr(C)]
+pub struct Limits {
+    pub slop: f32,
+    pub speculative: f32,
+    pub huge: f32,
+    pub units: f32,
+}
+
+mod linked {
+    use super::*;
+
+    extern "C" {
+        pub fn probe_root_bits(bits: u32) -> u32;
+        pub fn probe_root(x: f32) -> f32;
+        pub fn probe_vectors(a: Vec3, b: Vec3, s: f32) -> Vectors;
+        pub fn probe_rotations(t: Transform, v: Vec3) -> Rotations;
+        pub fn probe_shapes(plane: Plane, p: Vec3, b: Aabb) -> Shapes;
+        pub fn probe_support_vertex(
+            xs: *const f32,
+            xs_len: usize,
+            ys: *const f32,
+            ys_len: usize,
+            zs: *const f32,
+            zs_len: usize,
+            count: usize,
+            d: Vec3,
+        ) -> usize;
+        pub fn probe_lines(p1: Vec3, d1: Vec3, p2: Vec3, d2: Vec3) -> Lines;
+        pub fn probe_embed_index_w(value: FloatW, base: u32) -> FloatW;
+        pub fn probe_min_w(a: FloatW, b: FloatW) -> FloatW;
+        pub fn probe_min_index_w(a: FloatW) -> u32;
+        pub fn probe_flip_pair(pair: FeaturePair) -> Flipped;
+        pub fn probe_limits() -> Limits;
+    }
+}
+
+/// The root of the float with these bits, as bits.
+pub fn root_bits(bits: u32) -> u32 {
+    unsafe { linked::probe_root_bits(bits) }
+}
+
+#[inline]
+pub fn root(x: f32) -> f32 {
+    unsafe { linked::probe_root(x) }
+}
+
+pub fn vectors(a: Vec3, b: Vec3, s: f32) -> Vectors {
+    unsafe { linked::probe_vectors(a, b, s) }
+}
+
+pub fn rotations(t: Transform, v: Vec3) -> Rotations {
+    unsafe { linked::probe_rotations(t, v) }
+}
+
+pub fn shapes(plane: Plane, p: Vec3, b: Aabb) -> Shapes {
+    unsafe { linked::probe_shapes(plane, p, b) }
+}
+
+/// The first of the `count` vertices that lies farthest along `d`. Panics where there is none or a list is too short.
+pub fn support_vertex(xs: &[f32], ys: &[f32], zs: &[f32], count: usize, d: Vec3) -> usize {
+    assert!(0 < count && count <= xs.len() && count <= ys.len() && count <= zs.len());
+    unsafe {
+        linked::probe_support_vertex(
+            xs.as_ptr(),
+            xs.len(),
+            ys.as_ptr(),
+            ys.len(),
+            zs.as_ptr(),
+            zs.len(),
+            count,
+            d,
+        )
+    }
+}
+
+pub fn lines(p1: Vec3, d1: Vec3, p2: Vec3, d2: Vec3) -> Lines {
+    unsafe { linked::probe_lines(p1, d1, p2, d2) }
+}
+
+/// Panics where a lane is not finite or a number is above 127.
+pub fn embed_index_w(value: FloatW, base: u32) -> FloatW {
+    assert!(finite(value) && base <= 124);
+    unsafe { linked::probe_embed_index_w(value, base) }
+}
+
+pub fn min_w(a: FloatW, b: FloatW) -> FloatW {
+    unsafe { linked::probe_min_w(a, b) }
+}
+
+/// Panics where a lane is not finite.
+pub fn min_index_w(a: FloatW) -> u32 {
+    assert!(finite(a));
+    unsafe { linked::probe_min_index_w(a) }
+}
+
+pub fn flip_pair(pair: FeaturePair) -> Flipped {
+    unsafe { linked::probe_flip_pair(pair) }
+}
+
+pub fn limits() -> Limits {
+    unsafe { linked::probe_limits() }
+}
+
+fn finite(v: FloatW) -> bool {
+    v.x.is_finite() && v.y.is_finite() && v.z.is_finite() && v.w.is_finite()
+}

@@ -1,0 +1,8 @@
+//! Passes on whether the oracle has the Rust text, as the cfg `rust_text`.
+
+fn main() {
+    println!("cargo::rustc-check-cfg=cfg(rust_text)");
+    if std::env::var_os("DEP_RUST_TEXT_PRESENT").is_some() {
+        println!("cargo::rustc-cfg=rust_text");
+    }
+}
