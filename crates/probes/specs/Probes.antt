@@ -1,4 +1,5 @@
 -- What a probe of several helpers answers: each helper's definition, field by field. Definitions only.
+use mathlib.Core.List.{[], _∷_}
 use lib.Ieee.{Float}
 use Rattle.vector.specs.declared.Vec3.{Vec3}
 use Rattle.vector.specs.declared.Plane.{Plane}
@@ -6,8 +7,8 @@ use Rattle.vector.specs.declared.Aabb.{Aabb}
 use Rattle.vector.specs.declared.Transform.{Transform}
 use Rattle.vector.specs.Scalar.{minOf, maxOf, unitsPerMeter}
 use Rattle.vector.specs.Arithmetic.{addOf, subOf, negOf, absVecOf, crossOf, mulSvOf, mulAddOf, mulSubOf, lerpOf, normalizeOf, dotOf, lengthSquaredOf}
-use Rattle.vector.specs.Rotation.{matrixOf, transposeOf, mulMvOf, rotateOf, invRotateOf, transformPointOf, invTransformPointOf, invertOf}
-use Rattle.vector.specs.Shape.{planeSeparationOf, planeOf, centerOf, extentsOf}
+use Rattle.rotation.specs.Rotation.{matrixOf, transposeOf, mulMvOf, rotateOf, invRotateOf, transformPointOf, invTransformPointOf, invertOf}
+use Rattle.vector.specs.Shape.{planeSeparationOf, planeOf, centerOf, extentsOf, pointSupportOf}
 use Rattle.vector.specs.Awaited.{arbitraryPerpOf, lineDistanceOf, isWithinSegmentsOf}
 use Rattle.manifold.specs.Limits as limits
 use Rattle.probes.specs.declared.Vectors.{Vectors}
@@ -49,7 +50,13 @@ rotationsOf t v =
 
 abbrev pub shapesOf : Plane → Vec3 → Aabb → Shapes
 shapesOf plane p b =
-    record { separation = planeSeparationOf plane p; through = planeOf (plane .normal) p; center = centerOf b; extents = extentsOf b }
+    record {
+      separation = planeSeparationOf plane p;
+      through = planeOf (plane .normal) p;
+      center = centerOf b;
+      extents = extentsOf b;
+      farther = pointSupportOf (b .lower ∷ b .upper ∷ []) p;
+    }
 
 abbrev pub linesOf : Vec3 → Vec3 → Vec3 → Vec3 → Lines
 linesOf p1 d1 p2 d2 =

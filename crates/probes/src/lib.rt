@@ -6,10 +6,13 @@ ghost use lib.Ieee.{binary32, ofBits, toBits};
 ghost use Rattle.root.specs.Root.{rootOf};
 ghost use Rattle.vector.specs.Shape.{supportVertexOf, Lists};
 ghost use Rattle.lanes.specs.Lanes.{FiniteW, embedWOf, leastWOf, minIndexOf};
-ghost use Rattle.manifold.specs.Pairs.{flipOf};
+ghost use Rattle.vector.specs.Scalar.{minIntOf};
+ghost use Rattle.manifold.specs.declared.pairs.FeatureOwner.{FeatureOwner};
+ghost use Rattle.manifold.specs.Pairs.{pairOf, flipOf};
 ghost use Rattle.probes.specs.Probes.{vectorsOf, rotationsOf, shapesOf, linesOf, limitsOf};
 use lanes::FloatW;
 use manifold::FeaturePair;
+use manifold::pairs::FeatureOwner;
 use vector::Aabb;
 use vector::Plane;
 use vector::Quat;
@@ -51,6 +54,7 @@ pub struct Shapes {
     pub through: Plane,
     pub center: Vec3,
     pub extents: Vec3,
+    pub farther: usize,
 }
 
 #[repr(C)]
@@ -114,29 +118,32 @@ pub extern "C" fn probe_vectors(a: Vec3, b: Vec3, s: f32) -> Vectors
 pub extern "C" fn probe_rotations(t: Transform, v: Vec3) -> Rotations
     ensures { λ r. ⌜ r ≡ rotationsOf t v ⌝ }
 {
-    let rows = vector::rotation::make_matrix_from_quat(t.q);
-    let columns = vector::rotation::transpose(rows);
+    let rows = rotation::make_matrix_from_quat(t.q);
+    let columns = rotation::transpose(rows);
     Rotations {
-        by_rows: vector::rotation::mul_mv(rows, v),
-        by_columns: vector::rotation::mul_mv(columns, v),
-        turned: vector::rotation::rotate_vector(t.q, v),
-        turned_back: vector::rotation::inv_rotate_vector(t.q, v),
-        carried: vector::rotation::transform_point(t, v),
-        carried_back: vector::rotation::inv_transform_point(t, v),
-        inverse: vector::rotation::invert_transform(t),
+        by_rows: rotation::mul_mv(rows, v),
+        by_columns: rotation::mul_mv(columns, v),
+        turned: rotation::rotate_vector(t.q, v),
+        turned_back: rotation::inv_rotate_vector(t.q, v),
+        carried: rotation::transform_point(t, v),
+        carried_back: rotation::inv_transform_point(t, v),
+        inverse: rotation::invert_transform(t),
     }
 }
 
-// A plane and a point, and a box.
+// A plane and a point, a box, and which of its corners lies farther along the point.
 #[no_mangle]
 pub extern "C" fn probe_shapes(plane: Plane, p: Vec3, b: Aabb) -> Shapes
     ensures { λ r. ⌜ r ≡ shapesOf plane p b ⌝ }
 {
+    let lower = b.lower;
+    let upper = b.upper;
     Shapes {
         separation: vector::shape::plane_separation(plane, p),
         through: vector::shape::make_plane_from_normal_and_point(plane.normal, p),
         center: vector::shape::aabb_center(b),
         extents: vector::shape::aabb_extents(b),
+        farther: vector::shape::get_point_support([lower, upper], p),
     }
 }
 
@@ -195,6 +202,21 @@ pub extern "C" fn probe_min_index_w(a: FloatW) -> u32
     ensures { λ r. ⌜ r ≡ minIndexOf a ⌝ }
 {
     lanes::min_index_w(a)
+}
+
+#[no_mangle]
+pub extern "C" fn probe_min_int(a: usize, b: usize) -> usize
+    ensures { λ r. ⌜ r ≡ minIntOf a b ⌝ }
+{
+    vector::scalar::min_int(a, b)
+}
+
+// The tag of a point where an edge of A crosses one of B.
+#[no_mangle]
+pub extern "C" fn probe_edge_pair(index_a: u8, index_b: u8) -> FeaturePair
+    ensures { λ r. ⌜ r ≡ pairOf FeatureOwner.ShapeA «index_a» FeatureOwner.ShapeB «index_b» ⌝ }
+{
+    manifold::pairs::make_feature_pair(FeatureOwner::ShapeA, index_a, FeatureOwner::ShapeB, index_b)
 }
 
 #[no_mangle]

@@ -1,7 +1,6 @@
 pub mod Rounded
 pub mod Scalar
 pub mod Arithmetic
-pub mod Rotation
 pub mod Shape
 pub mod Awaited
 pub mod Bounded

@@ -3,6 +3,10 @@ use Prim.Native.Nat.{ℕ}
 use lib.Ieee as Ieee
 use lib.Ieee.{Float, binary32}
 
+-- the number with these bits
+abbrev pub float : ℕ → Float
+float b = Ieee.ofBits binary32 b
+
 abbrev pub _⊕_ : Float → Float → Float
 x ⊕ y = Ieee.add binary32 x y
 
@@ -19,6 +23,3 @@ infixl 6 _⊕_
 infixl 6 _⊖_
 infixl 7 _⊗_
 infixl 7 _⊘_
--- the number with these bits
-abbrev pub float : ℕ → Float
-float b = Ieee.ofBits binary32 b

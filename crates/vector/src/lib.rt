@@ -1,9 +1,8 @@
-// Vectors, rotations and planes of binary32 numbers, and the helpers that the Rust text leans on and does not hold.
+// Vectors, planes and boxes of binary32 numbers, and the helpers on them that the Rust text leans on and does not hold.
 // Each helper is one reading, fixed in specs/; every operation is rounded once, in the order written there, and nothing is fused.
 
 pub mod arithmetic;
 pub mod awaited;
-pub mod rotation;
 pub mod scalar;
 pub mod shape;
 

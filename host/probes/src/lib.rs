@@ -72,7 +72,7 @@ pub struct Rotations {
     pub inverse: Transform,
 }
 
-/// A plane and a point, and a box.
+/// A plane and a point, a box, and which of its corners lies farther along the point.
 #[derive(Debug, Clone, Copy)]
 #[repr(C)]
 pub struct Shapes {
@@ -80,6 +80,7 @@ pub struct Shapes {
     pub through: Plane,
     pub center: Vec3,
     pub extents: Vec3,
+    pub farther: usize,
 }
 
 /// The three awaited helpers.
@@ -153,6 +154,8 @@ mod linked {
         pub fn probe_embed_index_w(value: FloatW, base: u32) -> FloatW;
         pub fn probe_min_w(a: FloatW, b: FloatW) -> FloatW;
         pub fn probe_min_index_w(a: FloatW) -> u32;
+        pub fn probe_min_int(a: usize, b: usize) -> usize;
+        pub fn probe_edge_pair(index_a: u8, index_b: u8) -> FeaturePair;
         pub fn probe_flip_pair(pair: FeaturePair) -> Flipped;
         pub fn probe_limits() -> Limits;
     }
@@ -215,6 +218,15 @@ pub fn min_w(a: FloatW, b: FloatW) -> FloatW {
 pub fn min_index_w(a: FloatW) -> u32 {
     assert!(finite(a));
     unsafe { linked::probe_min_index_w(a) }
+}
+
+pub fn min_int(a: usize, b: usize) -> usize {
+    unsafe { linked::probe_min_int(a, b) }
+}
+
+/// The tag of a point where edge `index_a` of A crosses edge `index_b` of B.
+pub fn edge_pair(index_a: u8, index_b: u8) -> FeaturePair {
+    unsafe { linked::probe_edge_pair(index_a, index_b) }
 }
 
 pub fn flip_pair(pair: FeaturePair) -> Flipped {

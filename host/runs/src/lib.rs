@@ -8,7 +8,7 @@ impl Numbers {
         Numbers(seed)
     }
 
-    pub fn next(&mut self) -> u64 {
+    pub fn word(&mut self) -> u64 {
         self.0 = self.0.wrapping_add(0x9e37_79b9_7f4a_7c15);
         let mut z = self.0;
         z = (z ^ (z >> 30)).wrapping_mul(0xbf58_476d_1ce4_e5b9);
@@ -18,19 +18,19 @@ impl Numbers {
 
     /// One of `0..n`.
     pub fn below(&mut self, n: usize) -> usize {
-        (self.next() % n as u64) as usize
+        (self.word() % n as u64) as usize
     }
 
     /// From -1 to 1.
     pub fn fraction(&mut self) -> f32 {
-        (self.next() >> 40) as f32 / (1 << 23) as f32 - 1.0
+        (self.word() >> 40) as f32 / (1 << 23) as f32 - 1.0
     }
 
     /// A float of any sort: a special value, any bits, or a number of one of four sizes.
     pub fn float(&mut self) -> f32 {
         match self.below(8) {
             0 => SPECIAL[self.below(SPECIAL.len())],
-            1 => f32::from_bits(self.next() as u32),
+            1 => f32::from_bits(self.word() as u32),
             2 => self.fraction() * 1e-3,
             3 => self.fraction() * 4096.0,
             4 => self.fraction() * 4.096e6,

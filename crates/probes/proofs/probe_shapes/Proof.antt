@@ -15,8 +15,11 @@ aabb-center-requires c κs = search needs
 aabb-extents-requires : tie.Need-aabb-extents-requires
 aabb-extents-requires c κs = search needs
 
+get-point-support-requires : tie.Need-get-point-support-requires
+get-point-support-requires c κs = search needs
+
 returns : tie.Need-returns
-returns c = simp (c .aabb-extents .ensures, c .before .aabb-center .ensures, c .before .before .make-plane-from-normal-and-point .ensures, c .before .before .before .plane-separation .ensures)
+returns c = simp (c .get-point-support .ensures, c .before .aabb-extents .ensures, c .before .before .aabb-center .ensures, c .before .before .before .make-plane-from-normal-and-point .ensures, c .before .before .before .before .plane-separation .ensures)
 
 pub probe-shapes-spec : {M : Type 1} → statement M
 probe-shapes-spec =
@@ -26,4 +29,5 @@ probe-shapes-spec =
     make-plane-from-normal-and-point-requires
     aabb-center-requires
     aabb-extents-requires
+    get-point-support-requires
     returns)

@@ -13,7 +13,7 @@ const BATCHES: usize = 600;
 fn main() {
     let mut numbers = Numbers::new(1);
     let inputs: Vec<f32> = (0..INPUTS)
-        .map(|_| f32::from_bits(0x0080_0000 + (numbers.next() % 0x7f00_0000) as u32))
+        .map(|_| f32::from_bits(0x0080_0000 + (numbers.word() % 0x7f00_0000) as u32))
         .collect();
 
     println!(

@@ -56,7 +56,7 @@ fn sample(seed: u64) -> Tally {
     }
     let mut numbers = Numbers::new(seed);
     for _ in 0..RANDOM {
-        compare(&mut tally, numbers.next() as u32);
+        compare(&mut tally, numbers.word() as u32);
     }
     tally
 }

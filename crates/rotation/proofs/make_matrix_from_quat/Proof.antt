@@ -1,8 +1,8 @@
 -- `make_matrix_from_quat`: the code is the definition's own expression.
 use mathlib.Core.Path.{refl}
-use Rattle.vector.specs.Rotation.{matrixOf}
-use Rattle.vector.proofs.rotation.make_matrix_from_quat.Statement.{statement}
-use Rattle.vector.proofs.rotation.make_matrix_from_quat.Tie as tie
+use Rattle.rotation.specs.Rotation.{matrixOf}
+use Rattle.rotation.proofs.make_matrix_from_quat.Statement.{statement}
+use Rattle.rotation.proofs.make_matrix_from_quat.Tie as tie
 
 returns : tie.Need-returns
 unfolding matrixOf

@@ -1,8 +1,8 @@
 -- `rotate_vector`: each call answers its own definition, and together they are this one.
 use borrow.Author.Needs.{needs}
-use Rattle.vector.specs.Rotation.{rotateOf}
-use Rattle.vector.proofs.rotation.rotate_vector.Statement.{statement}
-use Rattle.vector.proofs.rotation.rotate_vector.Tie as tie
+use Rattle.rotation.specs.Rotation.{rotateOf}
+use Rattle.rotation.proofs.rotate_vector.Statement.{statement}
+use Rattle.rotation.proofs.rotate_vector.Tie as tie
 
 cross-requires : tie.Need-cross-requires
 cross-requires c κs = search needs

@@ -1,8 +1,8 @@
 -- `invert_transform`: each call answers its own definition, and together they are this one.
 use borrow.Author.Needs.{needs}
-use Rattle.vector.specs.Rotation.{invertOf}
-use Rattle.vector.proofs.rotation.invert_transform.Statement.{statement}
-use Rattle.vector.proofs.rotation.invert_transform.Tie as tie
+use Rattle.rotation.specs.Rotation.{invertOf}
+use Rattle.rotation.proofs.invert_transform.Statement.{statement}
+use Rattle.rotation.proofs.invert_transform.Tie as tie
 
 neg-requires : tie.Need-neg-requires
 neg-requires c κs = search needs

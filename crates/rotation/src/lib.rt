@@ -1,15 +1,15 @@
 // Rotations, as a quaternion and as three rows of three numbers, and transforms.
 ghost use mathlib.Core.Path.{_≡_};
-ghost use Rattle.vector.specs.Rotation.{matrixOf, transposeOf, mulMvOf, rotateOf, invRotateOf, transformPointOf, invTransformPointOf, invertOf};
-use crate::Quat;
-use crate::Transform;
-use crate::Vec3;
-use crate::arithmetic::add;
-use crate::arithmetic::cross;
-use crate::arithmetic::mul_add;
-use crate::arithmetic::mul_sub;
-use crate::arithmetic::neg;
-use crate::arithmetic::sub;
+ghost use Rattle.rotation.specs.Rotation.{matrixOf, transposeOf, mulMvOf, rotateOf, invRotateOf, transformPointOf, invTransformPointOf, invertOf};
+use vector::Quat;
+use vector::Transform;
+use vector::Vec3;
+use vector::arithmetic::add;
+use vector::arithmetic::cross;
+use vector::arithmetic::mul_add;
+use vector::arithmetic::mul_sub;
+use vector::arithmetic::neg;
+use vector::arithmetic::sub;
 
 pub fn make_matrix_from_quat(q: Quat) -> [[f32; 3]; 3]
     ensures { λ r. ⌜ r ≡ matrixOf q ⌝ }

@@ -1,9 +1,9 @@
 -- `mul_mv`: the code is the definition's own expression.
 use borrow.Author.Needs.{needs}
 use mathlib.Core.Path.{refl}
-use Rattle.vector.specs.Rotation.{mulMvOf}
-use Rattle.vector.proofs.rotation.mul_mv.Statement.{statement}
-use Rattle.vector.proofs.rotation.mul_mv.Tie as tie
+use Rattle.rotation.specs.Rotation.{mulMvOf}
+use Rattle.rotation.proofs.mul_mv.Statement.{statement}
+use Rattle.rotation.proofs.mul_mv.Tie as tie
 
 index-1-t8 : tie.Need-index-1-t8
 index-1-t8 c = search needs

@@ -1,8 +1,8 @@
 -- `transform_point`: each call answers its own definition, and together they are this one.
 use borrow.Author.Needs.{needs}
-use Rattle.vector.specs.Rotation.{transformPointOf}
-use Rattle.vector.proofs.rotation.transform_point.Statement.{statement}
-use Rattle.vector.proofs.rotation.transform_point.Tie as tie
+use Rattle.rotation.specs.Rotation.{transformPointOf}
+use Rattle.rotation.proofs.transform_point.Statement.{statement}
+use Rattle.rotation.proofs.transform_point.Tie as tie
 
 rotate-vector-requires : tie.Need-rotate-vector-requires
 rotate-vector-requires c κs = search needs

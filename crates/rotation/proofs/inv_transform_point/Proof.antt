@@ -1,8 +1,8 @@
 -- `inv_transform_point`: each call answers its own definition, and together they are this one.
 use borrow.Author.Needs.{needs}
-use Rattle.vector.specs.Rotation.{invTransformPointOf}
-use Rattle.vector.proofs.rotation.inv_transform_point.Statement.{statement}
-use Rattle.vector.proofs.rotation.inv_transform_point.Tie as tie
+use Rattle.rotation.specs.Rotation.{invTransformPointOf}
+use Rattle.rotation.proofs.inv_transform_point.Statement.{statement}
+use Rattle.rotation.proofs.inv_transform_point.Tie as tie
 
 sub-requires : tie.Need-sub-requires
 sub-requires c κs = search needs

@@ -1,9 +1,9 @@
 -- `transpose`: the code is the definition's own expression.
 use borrow.Author.Needs.{needs}
 use mathlib.Core.Path.{refl}
-use Rattle.vector.specs.Rotation.{transposeOf}
-use Rattle.vector.proofs.rotation.transpose.Statement.{statement}
-use Rattle.vector.proofs.rotation.transpose.Tie as tie
+use Rattle.rotation.specs.Rotation.{transposeOf}
+use Rattle.rotation.proofs.transpose.Statement.{statement}
+use Rattle.rotation.proofs.transpose.Tie as tie
 
 index-1-t7 : tie.Need-index-1-t7
 index-1-t7 c = search needs
