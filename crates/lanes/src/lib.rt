@@ -1,5 +1,5 @@
 // Four lanes of binary32 numbers: a vertex number embedded in the low seven bits of each, the least of lanes, and the number that the least carries.
-// Of simd_scalar.rs, what the support search uses. The arithmetic on lanes stands in the search itself, where LLVM packs it.
+// The part of simd_scalar.rs that works on bits and order; sums and products of lanes are plain `f32` expressions and need no helper.
 ghost use mathlib.Core.Path.{_≡_};
 ghost use Prim.Native.Nat.{_+_, _<_};
 ghost use lib.Dec.{T};

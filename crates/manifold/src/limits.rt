@@ -11,9 +11,6 @@ pub const SPECULATIVE_DISTANCE: f32 = 0.02;
 // Where the least support value starts: 100 km.
 pub const HUGE: f32 = 100000.0;
 
-// How near to parallel two edges may be, relative to their lengths.
-pub const PARALLEL_EDGE_TOL: f32 = 0.005;
-
 pub fn linear_slop() -> f32
     ensures { λ r. ⌜ r ≡ slop ⌝ }
 {
