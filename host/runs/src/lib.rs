@@ -1,4 +1,7 @@
-//! What the runs share: numbers from a seed, the comparison of two lists of floats, and the count of what was compared.
+//! What the runs share: numbers from a seed, hulls of every sort, the comparison of two lists of floats, and the count of
+//! what was compared.
+
+pub mod shapes;
 
 /// Numbers that depend on the seed alone (SplitMix64).
 pub struct Numbers(u64);
@@ -19,6 +22,20 @@ impl Numbers {
     /// One of `0..n`.
     pub fn below(&mut self, n: usize) -> usize {
         (self.word() % n as u64) as usize
+    }
+
+    /// The numbers `0..n` in any order.
+    pub fn order(&mut self, n: usize) -> Vec<usize> {
+        let mut order: Vec<usize> = (0..n).collect();
+        for i in 1..n {
+            order.swap(i, self.below(i + 1));
+        }
+        order
+    }
+
+    /// From `low` to `high`.
+    pub fn between(&mut self, low: f64, high: f64) -> f64 {
+        low + (high - low) * (self.word() >> 11) as f64 / (1u64 << 53) as f64
     }
 
     /// From -1 to 1.

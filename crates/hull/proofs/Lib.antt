@@ -1,0 +1,5 @@
+pub mod Limits
+pub mod Laws
+pub mod Transforms
+pub mod Answer
+pub mod Accepted

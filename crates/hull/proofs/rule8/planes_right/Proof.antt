@@ -1,0 +1,52 @@
+-- `planes_right`: before each turn, ok tells whether all planes so far are right.
+use mathlib.Core.Path.{_≡_, sym, ap, _∙_}
+use Prim.Native.Nat.{_-_, _≤_}
+use native.Mathlib.Omega.{arith}
+use borrow.Author.Needs.{needs}
+use Rattle.links.specs.Tests.{all}
+use Rattle.links.proofs.Tests.{all-none, all-and, all-end}
+use Rattle.hull.specs.Rule8.{planeRight, planeRightAt}
+use Rattle.hull.proofs.rule8.planes_right.Statement.{statement}
+use Rattle.hull.proofs.rule8.planes_right.Tie as tie
+
+abbrev Inv-loop : tie.InvT-loop
+Inv-loop numbers size n ok₀ i₀ ok i = (i ≤ n) × (ok ≡ all (planeRightAt size numbers) i)
+
+abbrev μ-loop : tie.MeasureT-loop
+μ-loop numbers size n ok₀ i₀ ok i = n - i
+
+loop-holds : tie.Need-loop-holds Inv-loop μ-loop
+loop-holds c = (search needs, sym (all-none _))
+
+plane-at-requires : tie.Need-plane-at-requires Inv-loop μ-loop
+plane-at-requires c κs = search needs
+
+plane-right-requires : tie.Need-plane-right-requires Inv-loop μ-loop
+plane-right-requires c κs = search needs
+
+add-i : tie.Need-add-i Inv-loop μ-loop
+add-i c = search needs
+
+loop-less : tie.Need-loop-less Inv-loop μ-loop
+loop-less c = search needs
+
+loop-again : tie.Need-loop-again Inv-loop μ-loop
+unfolding planeRightAt
+loop-again c = (omega arith, all-and _ _ _ _ (c .before .before .before .loop .inv .1) (c .plane-right .ensures ∙ ap planeRight (c .before .plane-at .ensures)))
+
+returns : tie.Need-returns Inv-loop μ-loop
+returns c = all-end _ _ _ _ (omega arith) (omega arith) (c .before .loop .inv .1)
+
+pub planes-right-spec : {M : Type 1} → statement M
+planes-right-spec =
+    tie.close
+    (tie.spec
+    Inv-loop
+    μ-loop
+    loop-holds
+    plane-at-requires
+    plane-right-requires
+    add-i
+    loop-less
+    loop-again
+    returns)

@@ -1,0 +1,78 @@
+// The numbers of a hull: its box, vertices and planes by value, and the validator, which tells the first broken rule of H1 to H8.
+// What the rules say is in specs/Rule8.antt and in the specs of `links`; what acceptance gives to others is in specs/Accepted.antt.
+pub mod rule8;
+
+ghost use mathlib.Core.Path.{_≡_};
+ghost use Prim.Native.Nat.{_<_};
+ghost use Rattle.links.specs.Links.{padded, NumbersFit};
+ghost use Rattle.hull.specs.Numbers.{boxOf, vertexAt, planeAt};
+ghost use Rattle.hull.specs.Rule8.{brokenRule};
+use crate::rule8::numbers_right;
+use links::HullSize;
+use vector::Aabb;
+use vector::Plane;
+use vector::Vec3;
+
+pub fn box_of(numbers: &[f32], size: HullSize) -> Aabb
+    requires { ⌜ NumbersFit size (now numbers) ⌝ }
+    ensures { λ r. ⌜ r ≡ boxOf (now (numbers .entry)) ⌝ }
+{
+    Aabb {
+        lower: Vec3 {
+            x: numbers[0],
+            y: numbers[1],
+            z: numbers[2],
+        },
+        upper: Vec3 {
+            x: numbers[3],
+            y: numbers[4],
+            z: numbers[5],
+        },
+    }
+}
+
+// Vertex v; from V on, padding.
+pub fn vertex_at(numbers: &[f32], size: HullSize, v: usize) -> Vec3
+    requires { ⌜ NumbersFit size (now numbers) × (v < padded size) ⌝ }
+    ensures { λ r. ⌜ r ≡ vertexAt size (now (numbers .entry)) v ⌝ }
+{
+    let p = (size.vertices + 3) / 4 * 4;
+    Vec3 {
+        x: numbers[6 + v],
+        y: numbers[6 + p + v],
+        z: numbers[6 + 2 * p + v],
+    }
+}
+
+// The plane of face f.
+pub fn plane_at(numbers: &[f32], size: HullSize, f: usize) -> Plane
+    requires { ⌜ NumbersFit size (now numbers) × (f < size .faces) ⌝ }
+    ensures { λ r. ⌜ r ≡ planeAt size (now (numbers .entry)) f ⌝ }
+{
+    let at = 6 + 3 * ((size.vertices + 3) / 4 * 4) + 4 * f;
+    Plane {
+        normal: Vec3 {
+            x: numbers[at],
+            y: numbers[at + 1],
+            z: numbers[at + 2],
+        },
+        offset: numbers[at + 3],
+    }
+}
+
+// The first broken rule, 0 if none, whatever is lent: nothing is taken on the caller's word.
+pub fn first_broken_rule(numbers: &[f32], links: &[u8], size: HullSize) -> u8
+    ensures { λ r. ⌜ r ≡ brokenRule size (now (numbers .entry)) (now (links .entry)) ⌝ }
+{
+    if !rules::sizes_right(numbers, links, size) {
+        return 1;
+    }
+    let rule = rules::broken_link_rule(links, size);
+    if rule != 0 {
+        return rule;
+    }
+    if !numbers_right(numbers, links, size) {
+        return 8;
+    }
+    0
+}

@@ -1,0 +1,193 @@
+// H8 and the rule of a transform. Passes over the numbers have no branch, so that they go four at a time. That all is finite needs no test of its own:
+// what is inside finite limits is finite, and so is each part of a sum of squares that is.
+ghost use mathlib.Core.Bool.{true};
+ghost use mathlib.Core.Path.{_≡_};
+ghost use Prim.Native.Nat.{_+_, _-_, _*_, _/_, _<_, _≤_};
+ghost use lib.ListN.{length};
+ghost use Rattle.links.specs.Tests.{_&_, all};
+ghost use Rattle.links.specs.Links.{LinksFit, NumbersFit};
+ghost use Rattle.links.specs.Rules.{h2};
+ghost use Rattle.hull.specs.Rule8.{inside, small, moderate, nearOne, apart, inBox, vertexInBox, planeRight, planeRightAt, endsApart, edgeLong, h8, transformRight};
+ghost use Rattle.hull.specs.Passes.{smallFrom, paddingSmall};
+use crate::box_of;
+use crate::plane_at;
+use crate::vertex_at;
+use links::HullSize;
+use vector::Aabb;
+use vector::Plane;
+use vector::Transform;
+use vector::Vec3;
+
+// Ends count as inside; a NaN is not.
+fn is_inside(lo: f32, hi: f32, x: f32) -> bool
+    ensures { λ r. ⌜ r ≡ inside lo hi x ⌝ }
+{
+    (lo <= x) & (x <= hi)
+}
+
+fn is_small(x: f32) -> bool
+    ensures { λ r. ⌜ r ≡ small x ⌝ }
+{
+    is_inside(-4096.0, 4096.0, x)
+}
+
+fn is_moderate(x: f32) -> bool
+    ensures { λ r. ⌜ r ≡ moderate x ⌝ }
+{
+    is_inside(-8192.0, 8192.0, x)
+}
+
+fn is_near_one(x: f32) -> bool
+    ensures { λ r. ⌜ r ≡ nearOne x ⌝ }
+{
+    is_inside(0.99, 1.01, x)
+}
+
+fn are_apart(a: f32, b: f32) -> bool
+    ensures { λ r. ⌜ r ≡ apart a b ⌝ }
+{
+    let d = b - a;
+    (0.0009765625 <= d) | (d <= -0.0009765625)
+}
+
+// The n numbers from `from` on are within 4096.
+fn numbers_small(numbers: &[f32], from: usize, n: usize) -> bool
+    requires { ⌜ from + n ≤ length (now numbers) ⌝ }
+    ensures { λ r. ⌜ r ≡ all (smallFrom (now (numbers .entry)) from) n ⌝ }
+{
+    let mut ok = true;
+    let mut i = 0;
+    while i < n {
+        ok = ok & is_small(numbers[from + i]);
+        i += 1;
+    }
+    ok
+}
+
+// The padding of the three lists is within 4096.
+fn padding_small(numbers: &[f32], size: HullSize) -> bool
+    requires { ⌜ NumbersFit size (now numbers) ⌝ }
+    ensures { λ r. ⌜ r ≡ paddingSmall size (now (numbers .entry)) ⌝ }
+{
+    let v = size.vertices;
+    let p = (v + 3) / 4 * 4;
+    numbers_small(numbers, 6 + v, p - v)
+        & numbers_small(numbers, 6 + p + v, p - v)
+        & numbers_small(numbers, 6 + 2 * p + v, p - v)
+}
+
+fn in_box(b: Aabb, v: Vec3) -> bool
+    ensures { λ r. ⌜ r ≡ inBox b v ⌝ }
+{
+    is_inside(b.lower.x, b.upper.x, v.x)
+        & is_inside(b.lower.y, b.upper.y, v.y)
+        & is_inside(b.lower.z, b.upper.z, v.z)
+}
+
+// Every vertex is inside the box.
+fn vertices_in_box(numbers: &[f32], size: HullSize) -> bool
+    requires { ⌜ NumbersFit size (now numbers) ⌝ }
+    ensures { λ r. ⌜ r ≡ all (vertexInBox size (now (numbers .entry))) (size .vertices) ⌝ }
+{
+    let b = box_of(numbers, size);
+    let n = size.vertices;
+    let mut ok = true;
+    let mut i = 0;
+    while i < n {
+        ok = ok & in_box(b, vertex_at(numbers, size, i));
+        i += 1;
+    }
+    ok
+}
+
+fn plane_right(p: Plane) -> bool
+    ensures { λ r. ⌜ r ≡ planeRight p ⌝ }
+{
+    let n = p.normal;
+    is_near_one(n.x * n.x + n.y * n.y + n.z * n.z) & is_moderate(p.offset)
+}
+
+// Every plane has a normal of length about 1 and an offset within 8192.
+fn planes_right(numbers: &[f32], size: HullSize) -> bool
+    requires { ⌜ NumbersFit size (now numbers) ⌝ }
+    ensures { λ r. ⌜ r ≡ all (planeRightAt size (now (numbers .entry))) (size .faces) ⌝ }
+{
+    let n = size.faces;
+    let mut ok = true;
+    let mut i = 0;
+    while i < n {
+        ok = ok & plane_right(plane_at(numbers, size, i));
+        i += 1;
+    }
+    ok
+}
+
+// The ends of an edge are apart along some axis. Most are so along the first, so the others wait.
+fn ends_apart(a: Vec3, b: Vec3) -> bool
+    ensures { λ r. ⌜ r ≡ endsApart a b ⌝ }
+{
+    if are_apart(a.x, b.x) {
+        return true;
+    }
+    if are_apart(a.y, b.y) {
+        return true;
+    }
+    are_apart(a.z, b.z)
+}
+
+fn edge_long(numbers: &[f32], links: &[u8], size: HullSize, k: usize) -> bool
+    requires { ⌜ NumbersFit size (now numbers) × LinksFit size (now links) × (h2 size (now links) ≡ true) × (k < size .«half_edges» / 2) ⌝ }
+    ensures { λ r. ⌜ r ≡ edgeLong size (now (numbers .entry)) (now (links .entry)) k ⌝ }
+{
+    let a = links::origin_of(links, size, 2 * k);
+    let b = links::origin_of(links, size, 2 * k + 1);
+    ends_apart(vertex_at(numbers, size, a), vertex_at(numbers, size, b))
+}
+
+// Every edge is long enough.
+fn edges_long(numbers: &[f32], links: &[u8], size: HullSize) -> bool
+    requires { ⌜ NumbersFit size (now numbers) × LinksFit size (now links) × (h2 size (now links) ≡ true) ⌝ }
+    ensures { λ r. ⌜ r ≡ all (edgeLong size (now (numbers .entry)) (now (links .entry))) (size .«half_edges» / 2) ⌝ }
+{
+    let n = size.half_edges / 2;
+    let mut i = 0;
+    while i < n {
+        if !edge_long(numbers, links, size, i) {
+            return false;
+        }
+        i += 1;
+    }
+    true
+}
+
+// H8. Of the coordinates only the box and the padding are held to 4096: what is inside a small box is small.
+pub fn numbers_right(numbers: &[f32], links: &[u8], size: HullSize) -> bool
+    requires { ⌜ NumbersFit size (now numbers) × LinksFit size (now links) × (h2 size (now links) ≡ true) ⌝ }
+    ensures { λ r. ⌜ r ≡ h8 size (now (numbers .entry)) (now (links .entry)) ⌝ }
+{
+    if !numbers_small(numbers, 0, 6) {
+        return false;
+    }
+    if !padding_small(numbers, size) {
+        return false;
+    }
+    if !vertices_in_box(numbers, size) {
+        return false;
+    }
+    if !planes_right(numbers, size) {
+        return false;
+    }
+    edges_long(numbers, links, size)
+}
+
+// Whether a transform breaks no rule.
+pub fn transform_accepted(t: Transform) -> bool
+    ensures { λ r. ⌜ r ≡ transformRight t ⌝ }
+{
+    let p = t.p;
+    let q = t.q;
+    is_small(p.x)
+        & is_small(p.y)
+        & is_small(p.z)
+        & is_near_one(q.v.x * q.v.x + q.v.y * q.v.y + q.v.z * q.v.z + q.s * q.s)
+}

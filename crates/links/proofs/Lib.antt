@@ -1,0 +1,6 @@
+pub mod Tests
+pub mod Counting
+pub mod Orbits
+pub mod Tours
+pub mod Facts
+pub mod Rounds

@@ -1,0 +1,2 @@
+mod Shapes
+pub mod Table

@@ -1,0 +1,107 @@
+// Two tours of a hull's links, one along every ring and one along every fan, which together accept a hull. Each walk tests what it passes, and all
+// walks share one count of the half-edges that are left: walks of different faces have no half-edge in common, so where they are as long together as
+// there are half-edges, every half-edge was passed and tested, once.
+ghost use mathlib.Core.Bool.{true};
+ghost use mathlib.Core.Path.{_≡_};
+ghost use Prim.Native.Nat.{_<_, _≤_};
+ghost use Rattle.links.specs.Links.{next, turn, LinksFit};
+ghost use Rattle.tours.specs.Found.{Length, OnFace, OnVertex, Ringed, Fanned};
+use links::HullSize;
+
+// How many half-edges the ring of face f has from `start` on: 0 where it is not back within `fuel` steps, leaves the face or leads out of range.
+fn ring_length(links: &[u8], size: HullSize, f: usize, start: usize, fuel: usize) -> usize
+    requires { ⌜ LinksFit size (now links) × (start < size .«half_edges») × (fuel ≤ size .«half_edges») ⌝ }
+    ensures { λ r. ⌜ Length (next size (now (links .entry))) (OnFace size (now (links .entry)) f) start fuel r ⌝ }
+{
+    let h = size.half_edges;
+    let mut n = 0;
+    let mut e = start;
+    while n < fuel {
+        if links::face_of(links, size, e) != f {
+            return 0;
+        }
+        let ahead = links::next_of(links, size, e);
+        if ahead >= h {
+            return 0;
+        }
+        n += 1;
+        if ahead == start {
+            return n;
+        }
+        e = ahead;
+    }
+    0
+}
+
+// Whether the rings of all faces have 3 half-edges or more and are together as long as there are half-edges.
+pub fn rings_toured(links: &[u8], size: HullSize) -> bool
+    requires { ⌜ LinksFit size (now links) ⌝ }
+    ensures { λ r. ⌜ (r ≡ true → Ringed size (now (links .entry))) × (Ringed size (now (links .entry)) → r ≡ true) ⌝ }
+{
+    let faces = size.faces;
+    let h = size.half_edges;
+    let mut left = h;
+    let mut f = 0;
+    while f < faces {
+        let start = links::face_edge(links, size, f);
+        if start >= h {
+            return false;
+        }
+        let n = ring_length(links, size, f, start, left);
+        if n < 3 {
+            return false;
+        }
+        left -= n;
+        f += 1;
+    }
+    left == 0
+}
+
+// How many half-edges the fan of vertex v has from `start` on: 0 where it is not back within `fuel` steps, leaves the vertex or meets a wrong twin.
+fn fan_length(links: &[u8], size: HullSize, v: usize, start: usize, fuel: usize) -> usize
+    requires { ⌜ LinksFit size (now links) × Ringed size (now links) × (start < size .«half_edges») × (fuel ≤ size .«half_edges») ⌝ }
+    ensures { λ r. ⌜ Length (turn size (now (links .entry))) (OnVertex size (now (links .entry)) v) start fuel r ⌝ }
+{
+    let mut n = 0;
+    let mut e = start;
+    while n < fuel {
+        if links::origin_of(links, size, e) != v {
+            return 0;
+        }
+        let mate = e ^ 1;
+        if links::twin_of(links, size, e) != mate {
+            return 0;
+        }
+        let turned = links::next_of(links, size, mate);
+        n += 1;
+        if turned == start {
+            return n;
+        }
+        e = turned;
+    }
+    0
+}
+
+// Whether the fans of all vertices are together as long as there are half-edges.
+pub fn fans_toured(links: &[u8], size: HullSize) -> bool
+    requires { ⌜ LinksFit size (now links) × Ringed size (now links) ⌝ }
+    ensures { λ r. ⌜ (r ≡ true → Fanned size (now (links .entry))) × (Fanned size (now (links .entry)) → r ≡ true) ⌝ }
+{
+    let vertices = size.vertices;
+    let h = size.half_edges;
+    let mut unturned = h;
+    let mut v = 0;
+    while v < vertices {
+        let start = links::vertex_edge(links, size, v);
+        if start >= h {
+            return false;
+        }
+        let n = fan_length(links, size, v, start, unturned);
+        if n == 0 {
+            return false;
+        }
+        unturned -= n;
+        v += 1;
+    }
+    unturned == 0
+}

@@ -1,0 +1,75 @@
+//! The proved validator beside the second one, on good hulls, on damaged hulls and on transforms.
+//!
+//!     hulls [SEED [COUNT]]
+//!
+//! COUNT scales every sort of hull. One line a sort: how many were compared, how many differ, and how often each answer,
+//! 0 for a good hull or the first broken rule, was met. The run fails where an answer differs, a call runs long, an
+//! answer was never met, or too little was compared.
+
+use runs::shapes::kinds::{COMPACT, STRETCHED};
+use runs::shapes::solids::Solid;
+use runs::shapes::Shape;
+use runs::{number_argument, Numbers};
+use sort::Total;
+
+mod breaks;
+mod floats;
+mod links;
+mod sizes;
+mod sort;
+mod transforms;
+
+/// No run is worth its name below these.
+const LEAST_HULLS: u64 = 100_000;
+const LEAST_TRANSFORMS: u64 = 20_000;
+
+fn main() {
+    let mut numbers = Numbers::new(number_argument(1, "SEED", 1));
+    let count = number_argument(2, "COUNT", 4000) as usize;
+    let mut total = Total::default();
+    good(&mut total, &mut numbers, count);
+    breaks::run(&mut total, &mut numbers, count);
+    links::run(&mut total, &mut numbers, count);
+    floats::run(&mut total, &mut numbers, count);
+    sizes::run(&mut total, &mut numbers, count);
+    let hulls = total.report(LEAST_HULLS);
+    let transforms = transforms::compare(&mut numbers, count);
+    let mut good = hulls & transforms.report("transforms");
+    if transforms.compared < LEAST_TRANSFORMS {
+        eprintln!("hulls: fewer than {LEAST_TRANSFORMS} transforms were compared");
+        good = false;
+    }
+    std::process::exit(if good { 0 } else { 1 });
+}
+
+/// Good hulls of every sort: near the origin, about it, and far from it.
+fn good(total: &mut Total, n: &mut Numbers, count: usize) {
+    for (name, solid) in COMPACT.into_iter().chain(STRETCHED) {
+        total.sort(name, |sort| {
+            for i in 0..count {
+                let reach = [0.0, 10.0, 1000.0][i % 3];
+                sort.expect(&Shape::any(&solid(n).placed(reach, n), n), 0);
+            }
+        });
+    }
+    total.sort("far from the origin", |sort| {
+        for _ in 0..count {
+            sort.expect(&Shape::any(&compact(n).far(n), n), 0);
+        }
+    });
+    total.sort("numbered as they are made", |sort| {
+        for _ in 0..count / 4 {
+            sort.expect(&Shape::new(&compact(n)), 0);
+        }
+    });
+}
+
+/// A solid of any compact sort.
+fn compact(n: &mut Numbers) -> Solid {
+    COMPACT[n.below(COMPACT.len())].1(n)
+}
+
+/// A good hull of any compact sort, somewhere near the origin.
+fn any_shape(n: &mut Numbers) -> Shape {
+    Shape::any(&compact(n).turned(n).placed(10.0, n), n)
+}

@@ -1,0 +1,105 @@
+//! The hulls of the runs are what their names say, good by the second validator and convex.
+
+use runs::shapes::kinds::{COMPACT, STRETCHED};
+use runs::shapes::solids::*;
+use runs::shapes::{Link, Shape};
+use runs::Numbers;
+
+fn answer(shape: &Shape) -> u8 {
+    let size = shape.size;
+    validator::first_broken_rule(
+        &shape.numbers,
+        &shape.links,
+        size.vertices,
+        size.half_edges,
+        size.faces,
+    )
+}
+
+fn sizes(solid: &Solid) -> (usize, usize, usize) {
+    let shape = Shape::new(solid);
+    assert_eq!(answer(&shape), 0);
+    let size = shape.size;
+    (size.vertices, size.half_edges, size.faces)
+}
+
+#[test]
+fn sizes_are_as_named() {
+    assert_eq!(sizes(&block([1.0; 3])), (8, 24, 6));
+    assert_eq!(sizes(&frustum(&polygon(12, 1.0), 1.0, 4.0)), (24, 72, 14));
+    assert_eq!(sizes(&frustum(&polygon(42, 1.0), 1.0, 4.0)), (84, 252, 44));
+    assert_eq!(sizes(&pyramid(64, 1.0, 1.0)), (65, 256, 65));
+    assert_eq!(sizes(&antiprism(32, 1.0, 1.0)), (64, 256, 66));
+    assert_eq!(sizes(&bipyramid(42, 1.0, 1.0)), (44, 252, 84));
+    assert_eq!(sizes(&most_faces(1.0)), (45, 256, 85));
+    assert_eq!(sizes(&most_vertices(1.0)), (128, 256, 4));
+}
+
+/// Faces -x, +x, -y, +y, -z, +z.
+#[test]
+fn a_block_has_its_faces_in_order() {
+    let shape = Shape::new(&block([1.0, 2.0, 3.0]));
+    for face in 0..6 {
+        let mut plane = [0.0; 4];
+        plane[face / 2] = if face % 2 == 0 { -1.0 } else { 1.0 };
+        plane[3] = [1.0, 2.0, 3.0][face / 2];
+        let from = shape.plane(face);
+        assert_eq!(shape.numbers[from..from + 4], plane);
+    }
+}
+
+#[test]
+fn all_are_good() {
+    let mut n = Numbers::new(7);
+    for (name, solid) in COMPACT.into_iter().chain(STRETCHED) {
+        for _ in 0..100 {
+            let placed = solid(&mut n).placed(1000.0, &mut n);
+            assert_eq!(answer(&Shape::any(&placed, &mut n)), 0, "{name}");
+        }
+    }
+    for (name, solid) in COMPACT {
+        let far = solid(&mut n).far(&mut n);
+        assert_eq!(answer(&Shape::any(&far, &mut n)), 0, "{name} far away");
+    }
+}
+
+/// No vertex lies above a plane, but for the two solids in one record.
+#[test]
+fn all_are_convex() {
+    let mut n = Numbers::new(8);
+    let single = |name: &str| !["largest sizes", "two in one record"].contains(&name);
+    let compact = COMPACT.into_iter().filter(|(name, _)| single(name));
+    for (name, solid) in compact.chain(STRETCHED) {
+        for _ in 0..100 {
+            convex(name, &Shape::any(&solid(&mut n).turned(&mut n), &mut n));
+        }
+    }
+    convex("antiprism", &Shape::new(&antiprism(32, 1.0, 1.0)));
+    convex("most faces", &Shape::new(&most_faces(1.0)));
+}
+
+/// By more than rounding a corner can lift it.
+fn convex(name: &str, shape: &Shape) {
+    let reach = shape.numbers[..6].iter().fold(0f32, |a, x| a.max(x.abs()));
+    for face in 0..shape.size.faces {
+        let from = shape.plane(face);
+        let [x, y, z, offset] = [0, 1, 2, 3].map(|i| shape.numbers[from + i]);
+        for vertex in 0..shape.size.vertices {
+            let [a, b, c] = shape.vertex(vertex);
+            let above = x * a + y * b + z * c - offset;
+            assert!(above <= 1e-4 * reach, "{name}: {above} above a plane");
+        }
+    }
+}
+
+/// Pairs stay side by side whatever else is numbered anew.
+#[test]
+fn numbering_is_free() {
+    let mut n = Numbers::new(9);
+    let plain = Shape::new(&block([1.0; 3]));
+    let shape = Shape::any(&block([1.0; 3]), &mut n);
+    assert_ne!(plain.links, shape.links);
+    for edge in 0..24 {
+        assert_eq!(shape.get(edge, Link::Twin), edge ^ 1);
+    }
+}
