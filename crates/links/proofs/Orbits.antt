@@ -25,6 +25,14 @@ unfolding steps
 steps-add step zero j c = rw zero-add
 steps-add step (suc i) j c = rw suc-add (steps-add step i j (step c) ∙ ap (steps step i) (steps-out step j c))
 
+-- two steps that agree on the way lead to the same places
+pub same-way : (step other : ℕ → ℕ) (s k : ℕ) → ((i : ℕ) → i < k → step (steps step i s) ≡ other (steps step i s)) → (i : ℕ) → i ≤ k
+    → steps step i s ≡ steps other i s
+unfolding steps
+same-way step other s k h zero l = refl
+same-way step other s k h (suc i) l =
+    steps-out step i s ∙ h i (omega arith) ∙ ap other (same-way step other s k h i (omega arith)) ∙ sym (steps-out other i s)
+
 -- ---- the loop that follows a walk: n steps are done, e is where it stands, and it is not back yet
 pub record Going (step : ℕ → ℕ) (P : ℕ → Type 0) (s n e : ℕ) : Type 0 where
   pub here : e ≡ steps step n s

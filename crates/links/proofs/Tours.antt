@@ -1,6 +1,6 @@
 -- Walks from k starts, told apart by a key that all of a walk have: they list no number twice; where they are h long together they list every number below h, and
 -- where they hold every number below h they list each exactly once. Assumes nothing.
-use mathlib.Core.Path.{_≡_, sym, ap, _∙_, subst}
+use mathlib.Core.Path.{_≡_, refl, sym, ap, _∙_, subst}
 use mathlib.Core.Bool.{true}
 use mathlib.Core.List.{List}
 use Prim.Native.Nat.{ℕ, suc, _+_, _-_, _≤_, _<_}
@@ -137,57 +137,55 @@ module _ (step key start : ℕ → ℕ) (P : ℕ → ℕ → Type 0) (least h k 
           sym (steps-out step (p .0 - 1) (start (key e))) ∙ ap (λ (x : ℕ). steps step x (start (key e))) n ∙ p .2,
         ))
 
--- ---- the loop over the starts: the walks of the first k are done, and left is what is left of h
-pub record Touring (step start : ℕ → ℕ) (P : ℕ → ℕ → Type 0) (least h left k : ℕ) : Type 0 where
+-- ---- the loop over the starts: the walks of the first k are done, and together they are `seen` long
+pub record Touring (step start : ℕ → ℕ) (P : ℕ → ℕ → Type 0) (least h seen k : ℕ) : Type 0 where
   pub walked : Walked step start P least h k
-  pub part : left + length (joined (λ f. ring step h (start f)) k) ≡ h
+  pub part : seen ≡ length (joined (λ f. ring step h (start f)) k)
 
 -- what holds of all below k, and of k
 with-last : (k : ℕ) (Q : ℕ → Type 0) → ((f : ℕ) → f < k → Q f) → Q k → (f : ℕ) → f < k + 1 → Q f
 with-last k Q before last f l = cases (eqb f k) (λ u. subst Q (sym (eqb-true f k u)) last) (λ u. before f (omega (arith, eqb-false f k u)))
 
 module _ (step start : ℕ → ℕ) (P : ℕ → ℕ → Type 0) (least h : ℕ) where
-  pub sets-off : Touring step start P least h h 0
+  pub sets-off : Touring step start P least h 0 0
   unfolding joined
-  sets-off = record { walked = record { walks = λ f l. absurd (omega arith); long = λ f l. absurd (omega arith); short = λ f l. absurd (omega arith) }; part = omega arith }
+  sets-off = record { walked = record { walks = λ f l. absurd (omega arith); long = λ f l. absurd (omega arith); short = λ f l. absurd (omega arith) }; part = refl }
 
-  pub one-walk : (left k s n : ℕ) → Touring step start P least h left k → s ≡ start k → n ≤ left → least ≤ n → Walk step (P k) s n
-      → Touring step start P least h (left - n) (k + 1)
+  pub one-walk : (seen more k s n : ℕ) → Touring step start P least h seen k → s ≡ start k → n ≤ h → least ≤ n → Walk step (P k) s n → more ≡ seen + n
+      → Touring step start P least h more (k + 1)
   unfolding joined
-  one-walk left k s n t q l g w =
+  one-walk seen more k s n t q l g w z =
       let w′ : Walk step (P k) (start k) n = subst (λ (x : ℕ). Walk step (P k) x n) q w in
-      let p = t .part in
-      let z : n ≤ h = omega arith in
-      let e : n ≡ length (ring step h (start k)) = ring-length step (P k) h (start k) n w′ z in
+      let e : n ≡ length (ring step h (start k)) = ring-length step (P k) h (start k) n w′ l in
       record {
         walked = record {
           walks = with-last k (λ f. Walk step (P f) (start f) (length (ring step h (start f)))) (t .walked .walks) (subst (λ (x : ℕ). Walk step (P k) (start k) x) e w′);
           long = with-last k (λ f. least ≤ length (ring step h (start f))) (t .walked .long) (subst (λ (x : ℕ). least ≤ x) e g);
-          short = with-last k (λ f. length (ring step h (start f)) ≤ h) (t .walked .short) (subst (λ (x : ℕ). x ≤ h) e z);
+          short = with-last k (λ f. length (ring step h (start f)) ≤ h) (t .walked .short) (subst (λ (x : ℕ). x ≤ h) e l);
         };
-        part = rw (add-one k) (omega (arith, length-append (joined (λ f. ring step h (start f)) k) (ring step h (start k))));
+        part = rw (add-one k) (omega (arith, z, t .part, length-append (joined (λ f. ring step h (start f)) k) (ring step h (start k))));
       }
 
-  pub all-walks : (left f k : ℕ) → Touring step start P least h left f → f ≤ k → k ≤ f → left ≡ 0 → Toured step start P least h k
-  all-walks left f k t a b z =
-      let e : f ≡ k = omega arith in
-      let t′ = subst (λ (x : ℕ). Touring step start P least h left x) e t in
-      let p = t′ .part in
-      record { walked = t′ .walked; whole = omega arith }
+  module _ (seen f k : ℕ) (t : Touring step start P least h seen f) where
+    pub all-walks : f ≤ k → k ≤ f → seen ≡ h → Toured step start P least h k
+    all-walks a b z =
+        let e : f ≡ k = omega arith in
+        let t′ = subst (λ (x : ℕ). Touring step start P least h seen x) e t in
+        record { walked = t′ .walked; whole = sym (t′ .part) ∙ z }
 
-  -- where all is toured in the end, what is left is enough for the next walk, and nothing is left at the end
-  pub enough : (left f k : ℕ) → Touring step start P least h left f → f < k → Toured step start P least h k → length (ring step h (start f)) ≤ left
-  unfolding joined
-  enough left f k t l whole =
-      omega (
-        arith,
-        t .part,
-        whole .whole,
-        length-append (joined (λ g. ring step h (start g)) f) (ring step h (start f)),
-        joined-part (λ g. ring step h (start g)) (suc f) k (omega arith),
-      )
+    -- where all is toured in the end, what is left is enough for the next walk, and nothing is left at the end
+    pub enough : f < k → Toured step start P least h k → length (ring step h (start f)) ≤ h - seen
+    unfolding joined
+    enough l whole =
+        omega (
+          arith,
+          t .part,
+          whole .whole,
+          length-append (joined (λ g. ring step h (start g)) f) (ring step h (start f)),
+          joined-part (λ g. ring step h (start g)) (suc f) k (omega arith),
+        )
 
-  pub nothing-left : (left f k : ℕ) → Touring step start P least h left f → f ≤ k → k ≤ f → Toured step start P least h k → left ≡ 0
-  nothing-left left f k t a b whole =
-      let e : f ≡ k = omega arith in
-      omega (arith, subst (λ (x : ℕ). left + length (joined (λ g. ring step h (start g)) x) ≡ h) e (t .part), whole .whole)
+    pub nothing-left : f ≤ k → k ≤ f → Toured step start P least h k → seen ≡ h
+    nothing-left a b whole =
+        let e : f ≡ k = omega arith in
+        t .part ∙ ap (λ (x : ℕ). length (joined (λ g. ring step h (start g)) x)) e ∙ whole .whole

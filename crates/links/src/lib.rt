@@ -13,7 +13,8 @@ pub struct HullSize {
     pub faces: usize,
 }
 
-fn wide(x: u8) -> usize
+// A byte as a number.
+pub fn wide(x: u8) -> usize
     ensures { λ r. ⌜ r ≡ x ⌝ }
 {
     x as usize

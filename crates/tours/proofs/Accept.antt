@@ -6,14 +6,15 @@ use mathlib.Core.List.{List}
 use Prim.Native.Nat.{ℕ, _+_, _*_, _/_, _%_, _<_}
 use native.Mathlib.Omega.{arith}
 use lib.Bits.{bitXor, xor-step, xor-zero-r, differ}
-use lib.Dec.{eqb}
-use borrow.Author.Tests.{eqb-true, eqb-false, eq-eqb, lt-ltb, le-leb}
+use lib.Dec.{eqb, ltb}
+use borrow.Author.Tests.{eqb-true, eqb-false, eq-eqb, ltb-true, ltb-false, lt-ltb, le-leb}
 use Rattle.links.specs.declared.HullSize.{HullSize}
 use Rattle.links.specs.Walks.{has, firsts}
 use Rattle.links.specs.Links.{next, twin, origin, face, vertexEdge, faceEdge, turn, faceRing, fan, LinksFit}
 use Rattle.links.specs.Rules.{vertexInRange, edgeInRange, faceInRange, twinsAt, linkedAt, newNext, ringHolds, ringRight, fanHolds, fanRight, h2, h3, h4, h5, h6, h7, brokenLinks, Linked}
 use Rattle.links.proofs.Tests.{cases, and-intro, implies-intro, all-intro, passes, none-broken}
 use Rattle.links.proofs.Counting.{has-firsts, onto-once}
+use Rattle.links.proofs.Orbits.{Going, comes-back, same-way}
 use Rattle.links.proofs.Tours.{start-has, home, at-home, keeps, from}
 use Rattle.links.proofs.Facts.{edge-fit, next-lt, twin-of-twin, twin-even, twin-odd}
 use Rattle.links.proofs.Rounds.{rings-walked, faces-once, fans-walked, corners-once}
@@ -43,6 +44,11 @@ pub mate-lt : (h : ℕ) → h % 2 ≡ 0 → (e : ℕ) → e < h → bitXor e 1 <
 mate-lt h z =
     both-mates (λ e. bitXor e 1 < h) h z (λ k l. subst (λ (x : ℕ). x < h) (sym (mate-even k)) (omega arith))
     (λ k l. subst (λ (x : ℕ). x < h) (sym (mate-odd k)) (omega arith))
+
+mate-mate : (e : ℕ) → bitXor (bitXor e 1) 1 ≡ e
+mate-mate e =
+    both-mates (λ x. bitXor (bitXor x 1) 1 ≡ x) (2 * (e / 2) + 2) (omega arith) (λ k l. ap (λ (x : ℕ). bitXor x 1) (mate-even k) ∙ mate-odd k)
+    (λ k l. ap (λ (x : ℕ). bitXor x 1) (mate-odd k) ∙ mate-even k) e (omega arith)
 
 -- ---- from the rules to the tours
 module _ (s : HullSize) (l : List ℕ) (ok : Linked s l) where
@@ -85,6 +91,12 @@ module _ (s : HullSize) (l : List ℕ) (r : Ringed s l) where
   next-from : (e : ℕ) → e < H → (a : ℕ) × (a < H) × (next s l a ≡ e)
   next-from = from (next s l) (face s l) (faceEdge s l) (OnFace s l) 3 H (s .faces) (λ f e p. p .on) (λ f e p. p .low) r
 
+  pub ringed-inj : (a b : ℕ) → a < H → b < H → next s l a ≡ next s l b → a ≡ b
+  ringed-inj a b la lb q =
+      cases (ltb a b) (λ t. absurd (onto-once (next s l) H ringed-next next-from a b (ltb-true a b t) lb q))
+      (λ t. cases (ltb b a) (λ u. absurd (onto-once (next s l) H ringed-next next-from b a (ltb-true b a u) la (sym q)))
+      (λ u. omega (arith, ltb-false a b t, ltb-false b a u)))
+
   rule-5 : h5 s l ≡ true
   unfolding h5 newNext
   rule-5 = all-intro (newNext s l) _ (λ e h.
@@ -98,6 +110,29 @@ module _ (s : HullSize) (l : List ℕ) (r : Ringed s l) where
       and-intro _ _ (and-intro _ _ (eq-eqb _ _ (face-start f h .on)) (le-leb _ _ (r .walked .long f h)))
       (all-intro (ringHolds s l f) _ (λ e le.
       implies-intro _ _ (λ q. subst (λ (x : ℕ). has e (faceRing s l x) ≡ true) (eqb-true _ _ q) (face-home e le .1)))))
+
+-- ---- where the rings were toured, next of the other of a pair is one-to-one, so that a fan comes back within H steps
+module _ (s : HullSize) (l : List ℕ) (fi : LinksFit s l) (r : Ringed s l) where
+  abbrev byMate : ℕ → ℕ
+  byMate e = next s l (bitXor e 1)
+
+  by-mate-lt : (e : ℕ) → e < s .«half_edges» → byMate e < s .«half_edges»
+  by-mate-lt e h = ringed-next s l r (bitXor e 1) (mate-lt (s .«half_edges») (fi .h-even) e h)
+
+  by-mate-inj : (a b : ℕ) → a < s .«half_edges» → b < s .«half_edges» → byMate a ≡ byMate b → a ≡ b
+  by-mate-inj a b la lb q =
+      sym (mate-mate a) ∙ ap (λ (x : ℕ). bitXor x 1) (ringed-inj s l r (bitXor a 1) (bitXor b 1) (mate-lt _ (fi .h-even) a la) (mate-lt _ (fi .h-even) b lb) q)
+      ∙ mate-mate b
+
+  pub under-way : (v start k e : ℕ) → start < s .«half_edges» → Going (turn s l) (OnVertex s l v) start k e → k < s .«half_edges»
+  under-way v start k e h g =
+      let m = comes-back byMate (s .«half_edges») by-mate-lt by-mate-inj start h in
+      let z = m .1 in
+      cases (ltb k (m .0)) (λ t. omega (arith, ltb-true k (m .0) t))
+      (λ t.
+      let d = ltb-false k (m .0) t in
+      absurd (g .apart (m .0) (m .2 .some) d
+      (same-way (turn s l) byMate start k (λ i u. ap (next s l) (g .each i u .mate)) (m .0) d ∙ m .2 .back)))
 
 module _ (s : HullSize) (l : List ℕ) (fi : LinksFit s l) (r : Ringed s l) (w : Fanned s l) where
   abbrev N : ℕ

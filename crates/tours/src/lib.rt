@@ -3,21 +3,22 @@
 // there are half-edges, every half-edge was passed and tested, once.
 ghost use mathlib.Core.Bool.{true};
 ghost use mathlib.Core.Path.{_≡_};
-ghost use Prim.Native.Nat.{_<_, _≤_};
+ghost use Prim.Native.Nat.{_-_, _<_, _≤_};
 ghost use Rattle.links.specs.Links.{next, turn, LinksFit};
 ghost use Rattle.tours.specs.Found.{Length, OnFace, OnVertex, Ringed, Fanned};
 use links::HullSize;
 
 // How many half-edges the ring of face f has from `start` on: 0 where it is not back within `fuel` steps, leaves the face or leads out of range.
-fn ring_length(links: &[u8], size: HullSize, f: usize, start: usize, fuel: usize) -> usize
+fn ring_length(links: &[u8], size: HullSize, f: u8, start: usize, fuel: usize) -> usize
     requires { ⌜ LinksFit size (now links) × (start < size .«half_edges») × (fuel ≤ size .«half_edges») ⌝ }
     ensures { λ r. ⌜ Length (next size (now (links .entry))) (OnFace size (now (links .entry)) f) start fuel r ⌝ }
 {
     let h = size.half_edges;
+    let face = links::wide(f);
     let mut n = 0;
     let mut e = start;
     while n < fuel {
-        if links::face_of(links, size, e) != f {
+        if links::face_of(links, size, e) != face {
             return 0;
         }
         let ahead = links::next_of(links, size, e);
@@ -40,32 +41,34 @@ pub fn rings_toured(links: &[u8], size: HullSize) -> bool
 {
     let faces = size.faces;
     let h = size.half_edges;
-    let mut left = h;
+    let mut ringed = 0;
     let mut f = 0;
     while f < faces {
         let start = links::face_edge(links, size, f);
         if start >= h {
             return false;
         }
-        let n = ring_length(links, size, f, start, left);
+        let n = ring_length(links, size, f as u8, start, h - ringed);
         if n < 3 {
             return false;
         }
-        left -= n;
+        ringed += n;
         f += 1;
     }
-    left == 0
+    ringed == h
 }
 
-// How many half-edges the fan of vertex v has from `start` on: 0 where it is not back within `fuel` steps, leaves the vertex or meets a wrong twin.
-fn fan_length(links: &[u8], size: HullSize, v: usize, start: usize, fuel: usize) -> usize
-    requires { ⌜ LinksFit size (now links) × Ringed size (now links) × (start < size .«half_edges») × (fuel ≤ size .«half_edges») ⌝ }
-    ensures { λ r. ⌜ Length (turn size (now (links .entry))) (OnVertex size (now (links .entry)) v) start fuel r ⌝ }
+// `fanned` and how many half-edges the fan of vertex v has from `start` on; 0 where it leaves the vertex or meets a wrong twin. Where the rings were
+// toured, no two half-edges have the same next, so that every fan comes back and no count of steps is needed.
+fn fan_counted(links: &[u8], size: HullSize, v: u8, start: usize, fanned: usize) -> usize
+    requires { ⌜ LinksFit size (now links) × Ringed size (now links) × (start < size .«half_edges») × (fanned ≤ 32768) ⌝ }
+    ensures { λ r. ⌜ Length (turn size (now (links .entry))) (OnVertex size (now (links .entry)) v) start (size .«half_edges») (r - fanned) × (r ≤ fanned → r ≡ 0) ⌝ }
 {
-    let mut n = 0;
+    let origin = links::wide(v);
+    let mut n = fanned;
     let mut e = start;
-    while n < fuel {
-        if links::origin_of(links, size, e) != v {
+    loop {
+        if links::origin_of(links, size, e) != origin {
             return 0;
         }
         let mate = e ^ 1;
@@ -79,7 +82,6 @@ fn fan_length(links: &[u8], size: HullSize, v: usize, start: usize, fuel: usize)
         }
         e = turned;
     }
-    0
 }
 
 // Whether the fans of all vertices are together as long as there are half-edges.
@@ -89,19 +91,19 @@ pub fn fans_toured(links: &[u8], size: HullSize) -> bool
 {
     let vertices = size.vertices;
     let h = size.half_edges;
-    let mut unturned = h;
+    let mut fanned = 0;
     let mut v = 0;
     while v < vertices {
         let start = links::vertex_edge(links, size, v);
         if start >= h {
             return false;
         }
-        let n = fan_length(links, size, v, start, unturned);
-        if n == 0 {
+        let counted = fan_counted(links, size, v as u8, start, fanned);
+        if counted <= fanned {
             return false;
         }
-        unturned -= n;
+        fanned = counted;
         v += 1;
     }
-    unturned == 0
+    fanned == h
 }

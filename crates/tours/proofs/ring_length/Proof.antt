@@ -1,5 +1,5 @@
 -- The walk is under way: n steps are done, all on face f, and it is not back at its start.
-use mathlib.Core.Path.{_∙_}
+use mathlib.Core.Path.{sym, _∙_}
 use Prim.Native.Nat.{_≤_, _<_, _-_}
 use native.Mathlib.Omega.{arith}
 use borrow.Author.Needs.{needs}
@@ -11,10 +11,13 @@ use Rattle.tours.proofs.ring_length.Statement.{statement}
 use Rattle.tours.proofs.ring_length.Tie as tie
 
 abbrev Inv-loop : tie.InvT-loop
-Inv-loop links size f start fuel h n₀ e₀ n e = (n ≤ fuel) × (e < size .«half_edges») × Going (next size links) (OnFace size links f) start n e
+Inv-loop links size f start fuel h face n₀ e₀ n e = (n ≤ fuel) × (e < size .«half_edges») × Going (next size links) (OnFace size links f) start n e
 
 abbrev μ-loop : tie.MeasureT-loop
-μ-loop links size f start fuel h n₀ e₀ n e = fuel - n
+μ-loop links size f start fuel h face n₀ e₀ n e = fuel - n
+
+wide-requires : tie.Need-wide-requires Inv-loop μ-loop
+wide-requires c κs = search needs
 
 loop-holds : tie.Need-loop-holds Inv-loop μ-loop
 loop-holds c = (search needs, search needs, sets-out _ _ _)
@@ -25,7 +28,7 @@ face-of-requires c κs = search needs
 returns : tie.Need-returns Inv-loop μ-loop
 returns c = let k = c .before in
     let l = k .before .before in
-    no-length _ _ _ _ (λ m q. spoils _ _ _ _ _ (l .loop .inv .2) (λ p. c .if1 .taken (k .face-of .ensures ∙ p .on)) m)
+    no-length _ _ _ _ (λ m q. spoils _ _ _ _ _ (l .loop .inv .2) (λ p. c .if1 .taken (k .face-of .ensures ∙ p .on ∙ sym (l .before .wide .ensures))) m)
 
 next-of-requires : tie.Need-next-of-requires Inv-loop μ-loop
 next-of-requires c κs = search needs
@@ -44,7 +47,7 @@ returns-3 c = let a = c .before in
     let g = b .before in
     let k = g .before in
     let l = k .before .before in
-    let p = on-face _ _ _ _ (l .loop .inv .1) _ _ (k .face-of .ensures) (g .if1 .left) (b .next-of .ensures) (a .if2 .left) in
+    let p = on-face _ _ _ _ (l .loop .inv .1) _ _ (k .face-of .ensures) (g .if1 .left ∙ l .before .wide .ensures) (b .next-of .ensures) (a .if2 .left) in
     is-length _ _ _ _ _ (omega arith) (arrives _ _ _ _ _ (l .loop .inv .2) _ p (b .next-of .ensures) (c .if3 .taken))
 
 loop-less : tie.Need-loop-less Inv-loop μ-loop
@@ -59,7 +62,7 @@ loop-again c = (
       let g = b .before in
       let k = g .before in
       let l = k .before .before in
-      goes-on _ _ _ _ _ (l .loop .inv .2) _ (on-face _ _ _ _ (l .loop .inv .1) _ _ (k .face-of .ensures) (g .if1 .left) (b .next-of .ensures) (a .if2 .left)) (b .next-of .ensures) (c .if3 .left),
+      goes-on _ _ _ _ _ (l .loop .inv .2) _ (on-face _ _ _ _ (l .loop .inv .1) _ _ (k .face-of .ensures) (g .if1 .left ∙ l .before .wide .ensures) (b .next-of .ensures) (a .if2 .left)) (b .next-of .ensures) (c .if3 .left),
 )
 
 returns-4 : tie.Need-returns-4 Inv-loop μ-loop
@@ -72,6 +75,7 @@ ring-length-spec =
     (tie.spec
     Inv-loop
     μ-loop
+    wide-requires
     loop-holds
     face-of-requires
     returns
