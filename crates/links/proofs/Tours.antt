@@ -8,6 +8,7 @@ use native.Mathlib.Numerals.{add-one}
 use native.Mathlib.Omega.{arith}
 use lib.Dec.{eqb}
 use lib.ListN.{length, length-append}
+use borrow.Author.Count.{below-more}
 use borrow.Author.Tests.{eqb-true, eqb-false}
 use Rattle.links.specs.Walks.{bit, count, has, joined, ring, steps, Once}
 use Rattle.links.specs.Tours.{Walk, Walked, Toured}
@@ -142,10 +143,6 @@ pub record Touring (step start : ℕ → ℕ) (P : ℕ → ℕ → Type 0) (leas
   pub walked : Walked step start P least h k
   pub part : seen ≡ length (joined (λ f. ring step h (start f)) k)
 
--- what holds of all below k, and of k
-with-last : (k : ℕ) (Q : ℕ → Type 0) → ((f : ℕ) → f < k → Q f) → Q k → (f : ℕ) → f < k + 1 → Q f
-with-last k Q before last f l = cases (eqb f k) (λ u. subst Q (sym (eqb-true f k u)) last) (λ u. before f (omega (arith, eqb-false f k u)))
-
 module _ (step start : ℕ → ℕ) (P : ℕ → ℕ → Type 0) (least h : ℕ) where
   pub sets-off : Touring step start P least h 0 0
   unfolding joined
@@ -159,9 +156,9 @@ module _ (step start : ℕ → ℕ) (P : ℕ → ℕ → Type 0) (least h : ℕ)
       let e : n ≡ length (ring step h (start k)) = ring-length step (P k) h (start k) n w′ l in
       record {
         walked = record {
-          walks = with-last k (λ f. Walk step (P f) (start f) (length (ring step h (start f)))) (t .walked .walks) (subst (λ (x : ℕ). Walk step (P k) (start k) x) e w′);
-          long = with-last k (λ f. least ≤ length (ring step h (start f))) (t .walked .long) (subst (λ (x : ℕ). least ≤ x) e g);
-          short = with-last k (λ f. length (ring step h (start f)) ≤ h) (t .walked .short) (subst (λ (x : ℕ). x ≤ h) e l);
+          walks = below-more (λ f. Walk step (P f) (start f) (length (ring step h (start f)))) k (t .walked .walks) (subst (λ (x : ℕ). Walk step (P k) (start k) x) e w′);
+          long = below-more (λ f. least ≤ length (ring step h (start f))) k (t .walked .long) (subst (λ (x : ℕ). least ≤ x) e g);
+          short = below-more (λ f. length (ring step h (start f)) ≤ h) k (t .walked .short) (subst (λ (x : ℕ). x ≤ h) e l);
         };
         part = rw (add-one k) (omega (arith, z, t .part, length-append (joined (λ f. ring step h (start f)) k) (ring step h (start k))));
       }

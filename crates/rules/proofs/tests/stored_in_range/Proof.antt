@@ -1,7 +1,7 @@
 -- The stored edges before the one at hand are in range.
 use mathlib.Core.Path.{_≡_, sym, ap}
 use mathlib.Core.Bool.{true}
-use Prim.Native.Nat.{suc, _≤_, _-_}
+use Prim.Native.Nat.{suc, _≤_, _<_, _-_}
 use native.Mathlib.Nat.{le-trans, le-of-eq}
 use native.Mathlib.Omega.{arith}
 use borrow.Author.Needs.{needs}
@@ -29,7 +29,8 @@ byte-at-requires c κs = search needs
 
 returns : tie.Need-returns Inv-loop μ-loop
 unfolding storedInRange
-returns c = sym (all-fails _ _ _ (c .before .before .loop-test .taken) (le-ltb _ _ (le-trans (c .if1 .taken) (le-of-eq (c .before .byte-at .ensures)))))
+returns c = let q : c .before .before .before .before .before .args .h ≤ c .before .byte-at .result = omega (arith, c .if1 .taken) in
+    sym (all-fails _ _ _ (c .before .before .loop-test .taken) (le-ltb _ _ (le-trans q (le-of-eq (c .before .byte-at .ensures)))))
 
 add-i : tie.Need-add-i Inv-loop μ-loop
 add-i c = omega arith
@@ -39,7 +40,8 @@ loop-less c = omega arith
 
 loop-again : tie.Need-loop-again Inv-loop μ-loop
 unfolding storedInRange
-loop-again c = (omega arith, all-more _ _ (c .before .before .before .loop .inv .1) (lt-ltb _ _ (le-trans (le-of-eq (ap suc (sym (c .before .byte-at .ensures)))) (c .if1 .left))))
+loop-again c = let q : c .before .byte-at .result < c .before .before .before .before .before .args .h = omega (arith, c .if1 .left) in
+    (omega arith, all-more _ _ (c .before .before .before .loop .inv .1) (lt-ltb _ _ (le-trans (le-of-eq (ap suc (sym (c .before .byte-at .ensures)))) q)))
 
 returns-2 : tie.Need-returns-2 Inv-loop μ-loop
 returns-2 c = sym (all-done _ _ _ (c .before .loop .inv .0) (c .loop-test .left) (c .before .loop .inv .1))

@@ -1,5 +1,6 @@
 -- Both twins of a pair are read and compared.
-use mathlib.Core.Path.{sym, _∙_}
+use mathlib.Core.Path.{refl, sym, ap₂, _∙_}
+use lib.Dec.{eqb}
 use borrow.Author.Tests.{eq-eqb, ne-eqb}
 use borrow.Author.Needs.{needs}
 use Rattle.links.specs.Rules.{twinsAt}
@@ -28,7 +29,7 @@ twin-of-requires-2 c κs = search needs
 
 returns-2 : tie.Need-returns-2
 unfolding twinsAt
-returns-2 c = and-last _ _ _ (eq-eqb _ _ (sym (c .before .before .twin-of .ensures) ∙ c .before .if1 .left)) (cc (c .twin-of2 .ensures))
+returns-2 c = and-last _ _ _ (eq-eqb _ _ (sym (c .before .before .twin-of .ensures) ∙ c .before .if1 .left)) (ap₂ eqb (c .twin-of2 .ensures) refl)
 
 pub twins-at-spec : {M : Type 1} → statement M
 twins-at-spec =

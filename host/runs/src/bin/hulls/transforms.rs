@@ -4,7 +4,7 @@ use super::floats::{ends_of_sums, with_sum};
 use probes::{Quat, Transform, Vec3};
 use runs::{Numbers, Tally, SPECIAL};
 
-/// Five comparisons at least for each of `count`, beside every special value at every place.
+/// Ten comparisons for each of `count`, beside every special value at every place.
 pub fn compare(n: &mut Numbers, count: usize) -> Tally {
     let mut tally = Tally::default();
     for _ in 0..count {
