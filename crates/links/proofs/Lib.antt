@@ -4,3 +4,4 @@ pub mod Orbits
 pub mod Tours
 pub mod Facts
 pub mod Rounds
+pub mod Along

@@ -1,1 +1,2 @@
 pub mod Products
+pub mod Polygons

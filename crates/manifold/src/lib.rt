@@ -34,6 +34,7 @@ pub struct FeaturePair {
 }
 
 // A corner of the polygon that is being cut, and its distance from the reference face.
+#[repr(C)]
 pub struct ClipVertex {
     pub position: Vec3,
     pub separation: f32,
@@ -41,6 +42,7 @@ pub struct ClipVertex {
 }
 
 // At most 64 corners; the places at and above the count are zero.
+#[repr(C)]
 pub struct Polygon {
     pub vertices: [ClipVertex; MAX_CLIP_POINTS],
     pub count: usize,

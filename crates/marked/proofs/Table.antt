@@ -6,12 +6,17 @@ use lib.Ieee.{Float, binary32, toBits, lt}
 use lib.Ieee as Ieee
 use Rattle.root.specs.Root.{isqrt, pattern, rootOf}
 use Rattle.vector.specs.Rounded.{float}
+use Rattle.vector.specs.declared.Plane.{Plane}
+use Rattle.vector.specs.Arithmetic.{subOf, dotOf, mulAddOf}
+use Rattle.vector.specs.Shape.{planeSeparationOf}
 use Rattle.bounds.specs.LowBits.{patternOf, embedOf, indexOf}
 use Rattle.lanes.specs.declared.FloatW.{FloatW}
 use Rattle.lanes.specs.Lanes.{embedWOf, lesserOf, minIndexOf}
 use Rattle.manifold.specs.declared.FeaturePair.{FeaturePair}
+use Rattle.manifold.specs.declared.ClipVertex.{ClipVertex}
 use Rattle.manifold.specs.Limits.{huge}
 use Rattle.manifold.specs.Pairs.{flipOf}
+use Rattle.cut.specs.Cut.{meetingOf, leavingOf, enteringOf, putOutOf, cutFrom, lastOf, cutOf}
 
 pub record Row : Type 0 where
   pub got : List ℕ
@@ -41,6 +46,44 @@ numbers p = p .owner1 ∷ p .index1 ∷ p .owner2 ∷ p .index2 ∷ []
 abbrev flip-row : (a b c d e f g h : ℕ) → Row
 flip-row a b c d e f g h = row (numbers (flipOf (record { owner1 = a; index1 = b; owner2 = c; index2 = d }) .pair)) (e ∷ f ∷ g ∷ h ∷ [])
 
+-- the bits of 0, 1, 2 and -1
+abbrev zero : ℕ
+zero = 0
+
+abbrev one : ℕ
+one = 0x3f80_0000
+
+abbrev two : ℕ
+two = 0x4000_0000
+
+abbrev minus-one : ℕ
+minus-one = 0xbf80_0000
+
+-- a corner at (x, y), on the reference plane z = 0
+abbrev corner : ℕ → ℕ → ClipVertex
+corner x y =
+    record {
+      position = record { x = float x; y = float y; z = float 0 };
+      separation = float 0;
+      pair = record { owner1 = 1; index1 = 0; owner2 = 1; index2 = 0 };
+    }
+
+-- x at most c
+abbrev x-at-most : ℕ → Plane
+x-at-most c = record { normal = record { x = float one; y = float 0; z = float 0 }; offset = float c }
+
+abbrev level : Plane
+level = record { normal = record { x = float 0; y = float 0; z = float one }; offset = float 0 }
+
+-- where corners stand
+abbrev spots : List ClipVertex → List ℕ
+spots [] = []
+spots (v ∷ vs) = bits (v .position .x) ∷ bits (v .position .y) ∷ spots vs
+
+-- "Square (0,0), (2,0), (2,2), (0,2) cut to x at most 1"
+abbrev cut-row : ℕ → List ℕ → Row
+cut-row c want = row (spots (cutOf (x-at-most c) 7 level (corner zero zero ∷ corner two zero ∷ corner two two ∷ corner zero two ∷ []))) want
+
 abbrev table : List Row
 table =
     -- the square root
@@ -58,8 +101,12 @@ table =
     -- flipped pairs
     ∷ flip-row 0 3 1 9 0 9 1 3
     ∷ flip-row 1 5 1 6 0 6 0 5
+    -- the square cut to x at most 1, 2 and -1
+    ∷ cut-row one (zero ∷ zero ∷ one ∷ zero ∷ one ∷ two ∷ zero ∷ two ∷ [])
+    ∷ cut-row two (zero ∷ zero ∷ two ∷ zero ∷ two ∷ two ∷ zero ∷ two ∷ [])
+    ∷ cut-row minus-one []
     ∷ []
 
 pub marked : map (λ (r : Row). r .got) table ≡ map (λ (r : Row). r .want) table
-unfolding rootOf pattern isqrt Ieee.size Ieee.ofBits toBits lt embedWOf patternOf embedOf indexOf lesserOf minIndexOf flipOf
+unfolding rootOf pattern isqrt Ieee.size Ieee.ofBits toBits lt embedWOf patternOf embedOf indexOf lesserOf minIndexOf flipOf Ieee.add Ieee.sub Ieee.mul Ieee.div Ieee.neg Ieee.le subOf dotOf mulAddOf planeSeparationOf meetingOf leavingOf enteringOf putOutOf cutFrom lastOf cutOf
 marked = refl

@@ -1,5 +1,7 @@
 // What the runs and the benchmarks of host/ link: a door to each layer, thin. What hosts of the routine link is another library.
-// A probe of several helpers answers them all in one record, so that one call tries a whole layer.
+// A probe of several helpers answers them all in one record, so that one call tries a whole layer. The doors to the cuts and picks are in cuts.rt.
+pub mod cuts;
+
 ghost use mathlib.Core.Path.{_≡_};
 ghost use Prim.Native.Nat.{_+_, _<_};
 ghost use lib.Ieee.{binary32, ofBits, toBits};

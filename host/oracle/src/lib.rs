@@ -30,6 +30,8 @@ pub mod geometry;
 pub mod hull;
 #[cfg(rust_text)]
 pub mod open;
+#[cfg(rust_text)]
+pub mod transcribed;
 
 /// The text's six manifold modules.
 #[cfg(rust_text)]

@@ -107,6 +107,20 @@ pub fn clip_polygon(
     })
 }
 
+/// The same into a buffer that no cut fills: all that the text puts out. The list is not empty.
+pub fn clip_polygon_whole(
+    polygon: &[ClipVertex],
+    clip_plane: Plane,
+    edge: i32,
+    ref_plane: Plane,
+) -> Vec<ClipVertex> {
+    let polygon: Vec<types::ClipVertex> = polygon.iter().map(|&v| v.into()).collect();
+    let mut out = vec![types::ClipVertex::default(); 2 * polygon.len()];
+    let count = polygon.len() as i32;
+    let count = clip::clip_polygon(&mut out, &polygon, count, clip_plane, edge, ref_plane);
+    first(&out, count)
+}
+
 /// The text's `build_polygon` into a buffer of 64.
 pub fn build_polygon(
     transform: Transform,
@@ -140,6 +154,66 @@ pub fn reduce_manifold_points(
     manifold.points[..manifold.point_count as usize].to_vec()
 }
 
-fn first(out: &[types::ClipVertex], count: i32) -> Vec<ClipVertex> {
+/// A polygon in the text's own records.
+pub struct Prepared {
+    vertices: [types::ClipVertex; types::MAX_CLIP_POINTS],
+    count: i32,
+}
+
+impl Prepared {
+    /// Panics where there are more than 64.
+    pub fn new(polygon: &[ClipVertex]) -> Self {
+        let mut vertices = [types::ClipVertex::default(); types::MAX_CLIP_POINTS];
+        for (to, &from) in vertices[..polygon.len()].iter_mut().zip(polygon) {
+            *to = from.into();
+        }
+        let count = polygon.len() as i32;
+        Prepared { vertices, count }
+    }
+}
+
+/// Room for the answers of the text's functions, so that a timed call is the text's own and nothing else.
+pub struct Buffers {
+    cut: [types::ClipVertex; types::MAX_CLIP_POINTS],
+    points: [LocalManifoldPoint; types::MAX_CLIP_POINTS],
+    manifold: LocalManifold,
+}
+
+impl Default for Buffers {
+    fn default() -> Self {
+        Buffers {
+            cut: [types::ClipVertex::default(); types::MAX_CLIP_POINTS],
+            points: [LocalManifoldPoint::default(); types::MAX_CLIP_POINTS],
+            manifold: LocalManifold::default(),
+        }
+    }
+}
+
+impl Buffers {
+    /// The text's `clip_polygon`: how many it leaves. Panics where the text does.
+    #[inline(never)]
+    pub fn clip_polygon(
+        &mut self,
+        polygon: &Prepared,
+        clip_plane: Plane,
+        edge: i32,
+        ref_plane: Plane,
+    ) -> i32 {
+        let (vertices, count) = (&polygon.vertices, polygon.count);
+        clip::clip_polygon(&mut self.cut, vertices, count, clip_plane, edge, ref_plane)
+    }
+
+    /// The text's `reduce_manifold_points` of a copy of the points, which it changes: how many it keeps.
+    #[inline(never)]
+    pub fn reduce_manifold_points(&mut self, normal: Vec3, points: &[LocalManifoldPoint]) -> i32 {
+        self.points[..points.len()].copy_from_slice(points);
+        self.manifold.normal = normal;
+        let (capacity, count) = (MAX_MANIFOLD_POINTS as i32, points.len() as i32);
+        sat::reduce_manifold_points(&mut self.manifold, capacity, &mut self.points, count);
+        self.manifold.point_count
+    }
+}
+
+pub(crate) fn first(out: &[types::ClipVertex], count: i32) -> Vec<ClipVertex> {
     out[..count as usize].iter().map(|&v| v.into()).collect()
 }

@@ -84,6 +84,34 @@ fn sixty_fifth_vertex_is_none() {
     assert_eq!(cut(&polygon, 2.0), Some(polygon));
 }
 
+/// The doors of one cut agree, but that one of them has room for a 65th.
+#[test]
+fn doors_of_a_cut_agree() {
+    let side = |offset| Plane {
+        normal: at(1.0, 0.0),
+        offset,
+    };
+    let polygon: Vec<ClipVertex> = (0..64)
+        .map(|i| 2.0 * PI * i as f32 / 64.0)
+        .map(|angle| ClipVertex {
+            position: at(angle.cos(), angle.sin()),
+            pair: pair(1, 2, 1, 4),
+            ..ClipVertex::default()
+        })
+        .collect();
+    let mut buffers = Buffers::default();
+    for offset in [2.0, 0.9, 0.0, -0.9, -2.0] {
+        let whole = clip_polygon_whole(&polygon, side(offset), 7, side(0.5));
+        let prepared = Prepared::new(&polygon);
+        let count = buffers.clip_polygon(&prepared, side(offset), 7, side(0.5));
+        assert_eq!(count as usize, whole.len());
+        let cut = clip_polygon(&polygon, side(offset), 7, side(0.5));
+        assert_eq!(cut, Some(whole));
+    }
+    let whole = clip_polygon_whole(&polygon, side(0.999), 7, side(0.5));
+    assert_eq!(whole.len(), 65);
+}
+
 #[test]
 fn six_points_are_reduced_to_four() {
     let normal = Vec3 {
@@ -109,4 +137,11 @@ fn six_points_are_reduced_to_four() {
         assert!(four.iter().any(|kept| kept.point == corner));
     }
     assert_eq!(reduce_manifold_points(normal, &points, 3), points[..3]);
+
+    let mut buffers = Buffers::default();
+    for count in [6, 3, 6] {
+        let left = reduce_manifold_points(normal, &points, count);
+        let made = buffers.reduce_manifold_points(normal, &points[..count as usize]);
+        assert_eq!(made as usize, left.len());
+    }
 }

@@ -2,6 +2,10 @@
 //! Each record has the fields of its Rattle original in their order; where a function there requires something, it is
 //! tested here.
 
+mod contacts;
+
+pub use contacts::*;
+
 /// Three numbers.
 #[derive(Debug, Clone, Copy)]
 #[repr(C)]

@@ -1,6 +1,8 @@
-//! What the runs share: numbers from a seed, hulls of every sort, the comparison of two lists of floats, and the count of
-//! what was compared.
+//! What the runs share: numbers from a seed, vectors, transforms and hulls of every sort, the comparison of two floats,
+//! and the count of what was compared.
 
+pub mod convert;
+pub mod inputs;
 pub mod shapes;
 
 /// Numbers that depend on the seed alone (SplitMix64).

@@ -33,6 +33,8 @@ fn sizes_are_as_named() {
     assert_eq!(sizes(&bipyramid(42, 1.0, 1.0)), (44, 252, 84));
     assert_eq!(sizes(&most_faces(1.0)), (45, 256, 85));
     assert_eq!(sizes(&most_vertices(1.0)), (128, 256, 4));
+    let long = two_sided(122, 1.0).joined(&pyramid(3, 1.0, 1.0).moved([0.0, 0.0, 2.0]));
+    assert_eq!(sizes(&long), (126, 256, 6));
 }
 
 /// Faces -x, +x, -y, +y, -z, +z.

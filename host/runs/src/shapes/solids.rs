@@ -120,11 +120,16 @@ pub fn most_faces(radius: f64) -> Solid {
 
 /// V 128, H 256, F 4: two polygons, each with both its sides.
 pub fn most_vertices(radius: f64) -> Solid {
-    let two_sided = Solid {
-        corners: raised(&polygon(64, radius), 0.0),
-        faces: vec![(0..64).collect(), (0..64).rev().collect()],
-    };
-    two_sided.joined(&two_sided.clone().moved([0.0, 0.0, radius]))
+    let both = two_sided(64, radius);
+    both.joined(&both.clone().moved([0.0, 0.0, radius]))
+}
+
+/// V n, H 2n, F 2, which are too few faces for a hull of its own.
+pub fn two_sided(sides: usize, radius: f64) -> Solid {
+    Solid {
+        corners: raised(&polygon(sides, radius), 0.0),
+        faces: vec![(0..sides).collect(), (0..sides).rev().collect()],
+    }
 }
 
 fn raised(base: &[[f64; 2]], height: f64) -> Vec<[f64; 3]> {
@@ -221,7 +226,7 @@ impl Solid {
 }
 
 /// Three directions at right angles.
-fn frame(n: &mut Numbers) -> [[f64; 3]; 3] {
+pub fn frame(n: &mut Numbers) -> [[f64; 3]; 3] {
     let mut unit = || loop {
         let v = [0.0; 3].map(|_: f64| n.between(-1.0, 1.0));
         let square = dot(v, v);

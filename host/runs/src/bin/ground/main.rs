@@ -6,7 +6,9 @@
 //! Rust's. Without the text its part is left out, and said so.
 
 use oracle::math_functions as reading;
-use probes::{Aabb, Plane, Quat, Transform, Vec3};
+use probes::{Aabb, Plane, Vec3};
+use runs::convert::{transform as read_transform, vector as read};
+use runs::inputs::{transform, vector};
 use runs::{number_argument, same, Numbers, Tally};
 use std::fmt::Debug;
 
@@ -31,56 +33,6 @@ fn main() {
     #[cfg(not(rust_text))]
     println!("left out, since the Rust text is not at hand: lanes, pairs, limits");
     std::process::exit(if good { 0 } else { 1 });
-}
-
-fn vector(n: &mut Numbers) -> Vec3 {
-    let (x, y, z) = (n.float(), n.float(), n.float());
-    Vec3 { x, y, z }
-}
-
-/// Most are near a unit quaternion, some are anything.
-fn transform(n: &mut Numbers) -> Transform {
-    let p = vector(n);
-    if n.below(4) == 0 {
-        return Transform {
-            p,
-            q: Quat {
-                v: vector(n),
-                s: n.float(),
-            },
-        };
-    }
-    let (x, y, z, s) = (n.fraction(), n.fraction(), n.fraction(), n.fraction());
-    let l = (x * x + y * y + z * z + s * s).sqrt();
-    Transform {
-        p,
-        q: Quat {
-            v: Vec3 {
-                x: x / l,
-                y: y / l,
-                z: z / l,
-            },
-            s: s / l,
-        },
-    }
-}
-
-fn read(v: Vec3) -> reading::Vec3 {
-    reading::Vec3 {
-        x: v.x,
-        y: v.y,
-        z: v.z,
-    }
-}
-
-fn read_transform(t: Transform) -> reading::Transform {
-    reading::Transform {
-        p: read(t.p),
-        q: reading::Quat {
-            v: read(t.q.v),
-            s: t.q.s,
-        },
-    }
 }
 
 /// One comparison a row: what is compared, ours, the reading's.

@@ -1,0 +1,2 @@
+pub mod Incident
+pub mod Candidates

@@ -1,0 +1,63 @@
+-- Each round adds the same count.
+use Prim.Native.Nat.{_-_, _≤_}
+use mathlib.Core.Path.{ap}
+use native.Mathlib.Omega.{arith}
+use Rattle.manifold.specs.declared.Contact.{Contact}
+use Rattle.manifold.specs.Polygons.{cornersOf}
+use Rattle.reduce.specs.Reduce.{contactOf, pointsOf}
+use Rattle.probes.proofs.Rounds.{Summed, none-summed, one-more, all-summed, four-most}
+use borrow.Author.Needs.{needs}
+use Rattle.probes.proofs.cuts.probe_reduce_rounds.Statement.{statement}
+use Rattle.probes.proofs.cuts.probe_reduce_rounds.Tie as tie
+
+abbrev Inv-loop : tie.InvT-loop
+Inv-loop points normal direction rounds total₀ i₀ total i = (i ≤ rounds) × Summed (contactOf normal (pointsOf direction normal (cornersOf points)) .count) total i
+
+abbrev μ-loop : tie.MeasureT-loop
+μ-loop points normal direction rounds total₀ i₀ total i = rounds - i
+
+loop-holds : tie.Need-loop-holds Inv-loop μ-loop
+loop-holds c = (omega arith, none-summed _)
+
+reduce-manifold-points-requires : tie.Need-reduce-manifold-points-requires Inv-loop μ-loop
+reduce-manifold-points-requires c κs = search needs
+
+cast-total : tie.Need-cast-total Inv-loop μ-loop
+cast-total c = search needs
+
+add-total : tie.Need-add-total Inv-loop μ-loop
+add-total c = let l = c .before .before .before in
+    let few = four-most _ _ _ _ (c .before .reduce-manifold-points .ensures) in
+    omega (arith, few, l .loop .inv .1 .most, l .loop .inv .0, l .before .pre .1)
+
+add-i : tie.Need-add-i Inv-loop μ-loop
+add-i c = search needs
+
+loop-less : tie.Need-loop-less Inv-loop μ-loop
+loop-less c = search needs
+
+loop-again : tie.Need-loop-again Inv-loop μ-loop
+loop-again c = let l = c .before .before .before in
+    let few = four-most _ _ _ _ (c .before .reduce-manifold-points .ensures) in (
+      omega (arith, c .before .before .loop-test .taken),
+      one-more _ _ _ _ (l .loop .inv .1) (ap (λ (x : Contact). x .count) (c .before .reduce-manifold-points .ensures)) (omega (arith, few)),
+    )
+
+returns : tie.Need-returns Inv-loop μ-loop
+returns c = let l = c .before in
+    all-summed _ _ _ _ (l .loop .inv .1) (l .loop .inv .0) (c .loop-test .left)
+
+pub probe-reduce-rounds-spec : {M : Type 1} → statement M
+probe-reduce-rounds-spec =
+    tie.close
+    (tie.spec
+    Inv-loop
+    μ-loop
+    loop-holds
+    reduce-manifold-points-requires
+    cast-total
+    add-total
+    add-i
+    loop-less
+    loop-again
+    returns)

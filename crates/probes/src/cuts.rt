@@ -1,0 +1,175 @@
+// Doors to the cuts and the picks.
+ghost use mathlib.Core.List.{map};
+ghost use mathlib.Core.Path.{_≡_};
+ghost use Prim.Native.Nat.{_*_, _≤_, _<_};
+ghost use Rattle.manifold.specs.Polygons.{cornersOf, polygonOf};
+ghost use Rattle.hull.specs.Accepted.{Accepted};
+ghost use Rattle.cut.specs.Cut.{cutOf};
+ghost use Rattle.cut.specs.Results.{clippedOf};
+ghost use Rattle.scores.specs.Images.{imageOf, leastSeparationOf, touchingOf};
+ghost use Rattle.reduce.specs.Reduce.{contactOf, pointsOf};
+ghost use Rattle.clip.specs.Incident.{incidentFaceOf};
+ghost use Rattle.clip.specs.Candidates.{builtOf, candidatesOf};
+use cut::Clipped;
+use links::HullSize;
+use manifold::Contact;
+use manifold::Polygon;
+use vector::Plane;
+use vector::Transform;
+use vector::Vec3;
+
+#[no_mangle]
+pub extern "C" fn probe_clip_polygon(
+    polygon: Polygon,
+    plane: Plane,
+    edge: u8,
+    reference: Plane,
+) -> Clipped
+    requires { ⌜ (0 < polygon .count) × (polygon .count ≤ 64) ⌝ }
+    ensures { λ r. ⌜ r ≡ clippedOf (cutOf plane edge reference (cornersOf polygon)) ⌝ }
+{
+    cut::clip_polygon(polygon, plane, edge, reference)
+}
+
+// So many cuts of one polygon, and how many corners they leave together: what a cut costs inside the routine, with no polygon handed over by the caller.
+#[no_mangle]
+pub extern "C" fn probe_clip_rounds(
+    polygon: Polygon,
+    plane: Plane,
+    edge: u8,
+    reference: Plane,
+    rounds: usize,
+) -> usize
+    requires { ⌜ (0 < polygon .count) × (polygon .count ≤ 64) × (rounds ≤ 65536) ⌝ }
+    ensures { λ r. ⌜ r ≡ rounds * clippedOf (cutOf plane edge reference (cornersOf polygon)) .polygon .count ⌝ }
+{
+    let mut total = 0;
+    let mut i = 0;
+    while i < rounds {
+        let clipped = cut::clip_polygon(polygon, plane, edge, reference);
+        total += left_by(clipped);
+        i += 1;
+    }
+    total
+}
+
+// How many corners a cut leaves.
+fn left_by(clipped: Clipped) -> usize
+    ensures { λ r. ⌜ r ≡ clipped .polygon .count ⌝ }
+{
+    let polygon = clipped.polygon;
+    polygon.count
+}
+
+#[no_mangle]
+pub extern "C" fn probe_images(candidates: Polygon, normal: Vec3) -> Polygon
+    requires { ⌜ candidates .count ≤ 64 ⌝ }
+    ensures { λ r. ⌜ r ≡ polygonOf (map (imageOf normal) (cornersOf candidates)) ⌝ }
+{
+    scores::images::images(candidates, normal)
+}
+
+#[no_mangle]
+pub extern "C" fn probe_least_separation(candidates: Polygon) -> f32
+    requires { ⌜ candidates .count ≤ 64 ⌝ }
+    ensures { λ r. ⌜ r ≡ leastSeparationOf (cornersOf candidates) ⌝ }
+{
+    scores::images::least_separation(candidates)
+}
+
+#[no_mangle]
+pub extern "C" fn probe_touching(count: usize, least: f32) -> bool
+    ensures { λ r. ⌜ r ≡ touchingOf count least ⌝ }
+{
+    scores::images::touching(count, least)
+}
+
+#[no_mangle]
+pub extern "C" fn probe_reduce_manifold_points(
+    points: Polygon,
+    normal: Vec3,
+    direction: Vec3,
+) -> Contact
+    requires { ⌜ points .count ≤ 64 ⌝ }
+    ensures { λ r. ⌜ r ≡ contactOf normal (pointsOf direction normal (cornersOf points)) ⌝ }
+{
+    reduce::reduce_manifold_points(points, normal, direction)
+}
+
+// So many reductions of the same images, and how many points they leave together.
+#[no_mangle]
+pub extern "C" fn probe_reduce_rounds(
+    points: Polygon,
+    normal: Vec3,
+    direction: Vec3,
+    rounds: usize,
+) -> usize
+    requires { ⌜ (points .count ≤ 64) × (rounds ≤ 65536) ⌝ }
+    ensures { λ r. ⌜ r ≡ rounds * contactOf normal (pointsOf direction normal (cornersOf points)) .count ⌝ }
+{
+    let mut total = 0;
+    let mut i = 0;
+    while i < rounds {
+        let contact = reduce::reduce_manifold_points(points, normal, direction);
+        total += contact.count as usize;
+        i += 1;
+    }
+    total
+}
+
+#[no_mangle]
+pub extern "C" fn probe_find_incident_face(
+    numbers: &[f32],
+    links: &[u8],
+    size: HullSize,
+    normal: Vec3,
+    vertex: usize,
+) -> usize
+    requires { ⌜ Accepted size (now numbers) (now links) × (vertex < size .vertices) ⌝ }
+    ensures { λ r. ⌜ r ≡ incidentFaceOf size (now (numbers .entry)) (now (links .entry)) normal vertex ⌝ }
+{
+    clip::incident::find_incident_face(numbers, links, size, normal, vertex)
+}
+
+#[no_mangle]
+pub extern "C" fn probe_build_polygon(
+    numbers: &[f32],
+    links: &[u8],
+    size: HullSize,
+    transform: Transform,
+    face: usize,
+    reference: Plane,
+) -> Polygon
+    requires { ⌜ Accepted size (now numbers) (now links) × (face < size .faces) ⌝ }
+    ensures { λ r. ⌜ r ≡ polygonOf (builtOf size (now (numbers .entry)) (now (links .entry)) transform reference face) ⌝ }
+{
+    clip::build_polygon(numbers, links, size, transform, face, reference)
+}
+
+#[no_mangle]
+pub extern "C" fn probe_candidates(
+    numbers_a: &[f32],
+    links_a: &[u8],
+    size_a: HullSize,
+    numbers_b: &[f32],
+    links_b: &[u8],
+    size_b: HullSize,
+    transform: Transform,
+    face: usize,
+    vertex: usize,
+) -> Clipped
+    requires { ⌜ Accepted «size_a» (now «numbers_a») (now «links_a») × Accepted «size_b» (now «numbers_b») (now «links_b») × (face < «size_a» .faces) × (vertex < «size_b» .vertices) ⌝ }
+    ensures { λ r. ⌜ r ≡ clippedOf (candidatesOf «size_a» (now («numbers_a» .entry)) (now («links_a» .entry)) «size_b» (now («numbers_b» .entry)) (now («links_b» .entry)) transform face vertex) ⌝ }
+{
+    clip::candidates(
+        numbers_a,
+        links_a,
+        size_a,
+        numbers_b,
+        links_b,
+        size_b,
+        transform,
+        face,
+        vertex,
+    )
+}

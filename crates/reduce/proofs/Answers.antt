@@ -1,0 +1,117 @@
+-- The four searches: a loop that reads each candidate at its place, and what its answer is. Assumes nothing.
+use Prim.Native.Nat.{ℕ, suc, _+_, _-_, _≤_, _<_}
+use mathlib.Core.Path.{_≡_, refl, sym, ap, _∙_}
+use mathlib.Core.Bool.{Bool, true, false, cond, false≢true}
+use mathlib.Core.Logic.{_⊎_, inl, inr, ⊎-elim}
+use mathlib.Core.List.{List}
+use native.Mathlib.Omega.{arith}
+use lib.ListN.{length, take, getD}
+use lib.Ieee.{Float, lt, le, mul, neg, ofBits}
+use Rattle.vector.specs.declared.Vec3.{Vec3}
+use Rattle.vector.specs.Rounded.{float, _⊗_}
+use Rattle.vector.specs.Scalar.{absOf}
+use Rattle.vector.specs.Arithmetic.{subOf}
+use Rattle.manifold.specs.declared.ClipVertex.{ClipVertex}
+use Rattle.manifold.specs.Records.{pastVertex}
+use Rattle.manifold.specs.Limits.{speculative}
+use Rattle.manifold.proofs.Polygons.{turns-keep}
+use Rattle.scores.specs.declared.Best.{Best}
+use Rattle.scores.specs.declared.Triangle.{Triangle}
+use Rattle.scores.specs.Images.{largest}
+use Rattle.scores.specs.Scores.{bias, betterOf, asGoodOf, firstTurn, reachOf, spreadOf, signedAreaOf, outsideOf}
+use Rattle.scores.proofs.Over.{over, turn-over, end-over}
+use Rattle.reduce.specs.Reduce.{tolerance, firstBest, secondBest, thirdBest, fourthBest}
+use Rattle.reduce.proofs.Standing.{left, stands, read-left, length-left-of}
+
+-- ---- one turn of each, and where they start
+abbrev pub Turn : Type 0
+Turn = Best → ℕ → ClipVertex → Best
+
+abbrev pub secondTurn : Vec3 → Vec3 → Turn
+secondTurn normal a best i v = betterOf best i (spreadOf normal a v)
+
+abbrev pub thirdTurn : Vec3 → Vec3 → Vec3 → Turn
+thirdTurn normal a ba best i v = asGoodOf best i (absOf (signedAreaOf normal a ba (v .position)))
+
+abbrev pub fourthTurn : Vec3 → Triangle → Turn
+fourthTurn normal t best i v = betterOf best i (outsideOf normal t (v .position))
+
+abbrev pub nothing : Float → Best
+nothing score = record { found = false; index = 0; score = score }
+
+-- ---- the loop: over what is left of the first n of an array, each read at its place
+module _ (f : Turn) (start : Best) (xs : List ClipVertex) (n : ℕ) (long : n ≤ length xs) (js : List ℕ) where
+  pub search-turn : (s next : Best) (i place : ℕ) → i < n - length js → place ≡ stands n js i → s ≡ over f start (left pastVertex (take n xs) js) i
+      → next ≡ f s i (getD xs place pastVertex) → next ≡ over f start (left pastVertex (take n xs) js) (i + 1)
+  search-turn s next i place h e p q =
+      turn-over f start (left pastVertex (take n xs) js) s next i (getD xs place pastVertex) p (read-left pastVertex xs n long js i place h e) q
+
+  pub search-end : (s : Best) (i : ℕ) → i ≤ n - length js → n - length js ≤ i → s ≡ over f start (left pastVertex (take n xs) js) i
+      → s ≡ over f start (left pastVertex (take n xs) js) (length (left pastVertex (take n xs) js))
+  search-end s i h k p = end-over f start (left pastVertex (take n xs) js) s i (n - length js) (length-left-of pastVertex xs n js long) h k p
+
+-- ---- the answer: where each turn keeps the best or takes its own index, it is the start, or an index below the length
+abbrev pub Takes : Turn → Type 0
+Takes f = (s : Best) (i : ℕ) (v : ClipVertex) → (f s i v ≡ s) ⊎ (f s i v .index ≡ i)
+
+pub answer : (f : Turn) → Takes f → (start : Best) (l : List ClipVertex) → (over f start l (length l) ≡ start) ⊎ (over f start l (length l) .index < length l)
+answer f takes start l =
+    turns-keep (λ (s : Best) (i : ℕ). f s i (getD l i pastVertex)) (λ (s : Best) (i : ℕ). (s ≡ start) ⊎ (s .index < i)) keep start (inl refl) (length l)
+  where
+    keep : (s : Best) (i : ℕ) → (s ≡ start) ⊎ (s .index < i) → (f s i (getD l i pastVertex) ≡ start) ⊎ (f s i (getD l i pastVertex) .index < suc i)
+    keep s i h =
+        ⊎-elim (λ e. ⊎-elim (λ q. inl (e ∙ q)) (λ q. inr (omega (arith, ap (λ (b : Best). b .index) e))) h) (λ e. inr (omega (arith, e))) (takes s i (getD l i pastVertex))
+
+takes-either : (q : Bool) (s next : Best) (i : ℕ) → next .index ≡ i → (cond q next s ≡ s) ⊎ (cond q next s .index ≡ i)
+takes-either true s next i e = inr e
+takes-either false s next i e = inl refl
+
+takes-better : (s : Best) (i : ℕ) (score : Float) → (betterOf s i score ≡ s) ⊎ (betterOf s i score .index ≡ i)
+unfolding betterOf
+takes-better s i score = takes-either (lt (s .score) (bias ⊗ score)) s (record { found = true; index = i; score = score }) i refl
+
+takes-as-good : (s : Best) (i : ℕ) (score : Float) → (asGoodOf s i score ≡ s) ⊎ (asGoodOf s i score .index ≡ i)
+unfolding asGoodOf
+takes-as-good s i score = takes-either (le (s .score) (bias ⊗ score)) s (record { found = true; index = i; score = score }) i refl
+
+passed-over : (q : Bool) (s next : Best) (i : ℕ) → (next ≡ s) ⊎ (next .index ≡ i) → (cond q s next ≡ s) ⊎ (cond q s next .index ≡ i)
+passed-over true s next i e = inl refl
+passed-over false s next i e = e
+
+takes-first : (direction : Vec3) → Takes (firstTurn direction)
+unfolding firstTurn
+takes-first direction s i v = passed-over (lt speculative (v .separation)) s (betterOf s i (reachOf direction v)) i (takes-better s i (reachOf direction v))
+
+-- what is found lies below the length
+found-low : (f : Turn) → Takes f → (score : Float) (l : List ClipVertex) (r : Best) → r ≡ over f (nothing score) l (length l) → r .found ≡ true → r .index < length l
+found-low f takes score l r e t =
+    ⊎-elim (λ q. absurd (false≢true (sym (ap (λ (b : Best). b .found) (e ∙ q)) ∙ t))) (λ q. rw e q) (answer f takes (nothing score) l)
+
+pub first-low : (direction : Vec3) (l : List ClipVertex) (r : Best) → r ≡ firstBest direction l → r .found ≡ true → r .index < length l
+unfolding firstBest
+first-low direction = found-low (firstTurn direction) (takes-first direction) (neg largest)
+
+pub third-low : (normal a b : Vec3) (l : List ClipVertex) (r : Best) → r ≡ thirdBest normal tolerance a b l → r .found ≡ true → r .index < length l
+unfolding thirdBest
+third-low normal a b =
+    found-low (thirdTurn normal a (subOf b a)) (λ s i v. takes-as-good s i (absOf (signedAreaOf normal a (subOf b a) (v .position)))) tolerance
+
+pub fourth-low : (normal : Vec3) (t : Triangle) (l : List ClipVertex) (r : Best) → r ≡ fourthBest normal tolerance t l → r .found ≡ true → r .index < length l
+unfolding fourthBest
+fourth-low normal t = found-low (fourthTurn normal t) (λ s i v. takes-better s i (outsideOf normal t (v .position))) tolerance
+
+-- the constant that the compiler makes of 0.02 * 0.02 is the rounded product
+pub folded : float 0x39d1_b717 ≡ tolerance
+unfolding mul ofBits
+folded = refl
+
+-- the second search starts below the tolerance, so that a score that is not below it was found
+below-tolerance : lt (float 0) tolerance ≡ true
+unfolding lt mul ofBits
+below-tolerance = refl
+
+pub second-low : (normal a : Vec3) (l : List ClipVertex) (r : Best) → r ≡ secondBest normal a l → lt (r .score) tolerance ≡ false → r .index < length l
+unfolding secondBest
+second-low normal a l r e t =
+    ⊎-elim (λ q. absurd (false≢true (sym t ∙ ap (λ (b : Best). lt (b .score) tolerance) (e ∙ q) ∙ below-tolerance))) (λ q. rw e q)
+    (answer (secondTurn normal a) (λ s i v. takes-better s i (spreadOf normal a v)) (nothing (float 0)) l)

@@ -1,0 +1,219 @@
+-- The points are at most four, each is the candidate at its place, the places lie below the count and differ, and four or fewer are all kept. Assumes nothing.
+use Prim.Native.Nat.{ℕ, zero, suc, _-_, _≤_, _<_}
+use mathlib.Core.Path.{_≡_, refl, sym, ap, _∙_}
+use mathlib.Core.Bool.{Bool, true, false, cond}
+use mathlib.Core.List.{List, [], _∷_, map}
+use native.Mathlib.Nat.{not-suc-le-zero}
+use native.Mathlib.Omega.{arith}
+use lib.Dec.{eqb, leb}
+use lib.ListN.{length, getD, length-append, length-map, List·getD-append}
+use lib.Seq.{ext-getD, getD-at}
+use lib.Ieee.{lt}
+use borrow.Author.Tests.{eqb-true, eqb-false, leb-true, le-leb}
+use Rattle.vector.specs.declared.Vec3.{Vec3}
+use Rattle.manifold.specs.declared.ClipVertex.{ClipVertex}
+use Rattle.manifold.specs.Records.{pastVertex}
+use Rattle.scores.specs.Scores.{triangleOf}
+use Rattle.reduce.specs.Chosen.{Chosen}
+use Rattle.reduce.specs.Reduce.{without, standing, taken, tolerance, firstBest, secondBest, thirdBest, fourthBest, fourthPicks, thirdPicks, secondPicks, firstPicks, kept, pointsOf, numbered, placesOf}
+use Rattle.reduce.proofs.Cases.{cases}
+use Rattle.reduce.proofs.Standing.{standing-low, standing-other, standing-same, length-without, at-without}
+use Rattle.reduce.proofs.Answers.{first-low, second-low, third-low, fourth-low}
+use Rattle.reduce.proofs.Picks.{all-kept}
+
+-- ---- the picks: at most k, each index below what is then left of n
+data Picked : ℕ → List ℕ → ℕ → Type 0 where
+  none : {k n : ℕ} → Picked k [] n
+  one : {k n j : ℕ} {js : List ℕ} → j < n → Picked k js (n - 1) → Picked (suc k) (j ∷ js) n
+
+picked-few : {k n : ℕ} {js : List ℕ} → Picked k js n → length js ≤ k
+picked-few none = omega arith
+picked-few (one h p) = let q = picked-few p in omega arith
+
+-- what a search that may find nothing picks
+where-found : (found : Bool) (k n j : ℕ) (js : List ℕ) → (found ≡ true → j < n) → Picked k js (n - 1) → Picked (suc k) (cond found (j ∷ js) []) n
+where-found true k n j js h p = one (h refl) p
+where-found false k n j js h p = none
+
+where-enough : (short : Bool) (k n j : ℕ) (js : List ℕ) → (short ≡ false → j < n) → Picked k js (n - 1) → Picked (suc k) (cond short [] (j ∷ js)) n
+where-enough true k n j js h p = none
+where-enough false k n j js h p = one (h refl) p
+
+module _ (normal : Vec3) where
+  fourth-picked : (v1 v2 v3 : ClipVertex) (l : List ClipVertex) (n : ℕ) → length l ≡ n → Picked 1 (fourthPicks normal v1 v2 v3 l) n
+  unfolding fourthPicks
+  fourth-picked v1 v2 v3 l n e =
+      let t = triangleOf normal (v1 .position) (v2 .position) (v3 .position) in
+      let best = fourthBest normal tolerance t l in
+      where-found (best .found) 0 n (best .index) [] (λ h. rw (← e) (fourth-low normal t l best refl h)) none
+
+  third-picked : (v1 v2 : ClipVertex) (l : List ClipVertex) (n : ℕ) → length l ≡ n → Picked 2 (thirdPicks normal v1 v2 l) n
+  unfolding thirdPicks
+  third-picked v1 v2 l n e =
+      let best = thirdBest normal tolerance (v1 .position) (v2 .position) l in
+      let rest = without pastVertex l (best .index) in
+      where-found (best .found) 1 n (best .index) (fourthPicks normal v1 v2 (getD l (best .index) pastVertex) rest)
+      (λ h. rw (← e) (third-low normal (v1 .position) (v2 .position) l best refl h))
+      (fourth-picked v1 v2 (getD l (best .index) pastVertex) rest (n - 1) (length-without pastVertex l (best .index) ∙ ap (λ (m : ℕ). m - 1) e))
+
+  second-picked : (v1 : ClipVertex) (l : List ClipVertex) (n : ℕ) → length l ≡ n → Picked 3 (secondPicks normal v1 l) n
+  unfolding secondPicks
+  second-picked v1 l n e =
+      let best = secondBest normal (v1 .position) l in
+      let rest = without pastVertex l (best .index) in
+      where-enough (lt (best .score) tolerance) 2 n (best .index) (thirdPicks normal v1 (getD l (best .index) pastVertex) rest)
+      (λ h. rw (← e) (second-low normal (v1 .position) l best refl h))
+      (third-picked v1 (getD l (best .index) pastVertex) rest (n - 1) (length-without pastVertex l (best .index) ∙ ap (λ (m : ℕ). m - 1) e))
+
+  first-picked : (direction : Vec3) (l : List ClipVertex) → Picked 4 (firstPicks direction normal l) (length l)
+  unfolding firstPicks
+  first-picked direction l =
+      let best = firstBest direction l in
+      let rest = without pastVertex l (best .index) in
+      where-found (best .found) 3 (length l) (best .index) (secondPicks normal (getD l (best .index) pastVertex) rest) (first-low direction l best refl)
+      (second-picked (getD l (best .index) pastVertex) rest (length l - 1) (length-without pastVertex l (best .index)))
+
+-- ---- what is taken
+module _ {A : Type 0} (d : A) where
+  length-taken : (js : List ℕ) (l : List A) → length (taken d js l) ≡ length js
+  unfolding taken
+  length-taken [] l = refl
+  length-taken (j ∷ js) l = ap suc (length-taken js (without d l j))
+
+-- taking comes to the same before a map and after it
+module _ {A B : Type 0} (f : A → B) (a : A) (b : B) where
+  at-map : (l : List A) (i : ℕ) → i < length l → getD (map f l) i b ≡ f (getD l i a)
+  at-map [] i h = absurd (not-suc-le-zero h)
+  at-map (x ∷ xs) zero h = refl
+  at-map (x ∷ xs) (suc i) h = at-map xs i (omega arith)
+
+  map-without : (l : List A) (j : ℕ) → without b (map f l) j ≡ map f (without a l j)
+  map-without l j =
+      let m : length (map f l) ≡ length l = length-map l f in
+      let w : length (without b (map f l) j) ≡ length l - 1 = length-without b (map f l) j ∙ ap (λ (n : ℕ). n - 1) m in
+      let u : length (without a l j) ≡ length l - 1 = length-without a l j in
+      ext-getD b (without b (map f l) j) (map f (without a l j)) (w ∙ sym (length-map (without a l j) f ∙ u))
+      (λ i h.
+      at-without b (map f l) j i (omega (arith, w, m))
+      ∙ (rw m (at-map l (standing (length l) j i) (standing-low (length l) j i (omega (arith, w))))
+      ∙ sym (at-map (without a l j) i (omega (arith, w, u)) ∙ ap f (at-without a l j i (omega (arith, w))))))
+
+  map-taken : {k : ℕ} {js : List ℕ} (l : List A) {n : ℕ} → Picked k js n → length l ≡ n → taken b js (map f l) ≡ map f (taken a js l)
+  unfolding taken
+  map-taken l none e = refl
+  map-taken l (one {j = j} {js = js} h p) e =
+      let r = map-taken (without a l j) p (length-without a l j ∙ ap (λ (m : ℕ). m - 1) e) in
+      rw (at-map l j (omega (arith, e)), map-without l j, r)
+
+-- ---- the places
+length-numbered : (n : ℕ) → length (numbered n) ≡ n
+unfolding numbered
+length-numbered zero = refl
+length-numbered (suc n) = omega (arith, length-append (numbered n) (n ∷ []), length-numbered n)
+
+at-numbered : (n i : ℕ) → i < n → getD (numbered n) i 0 ≡ i
+unfolding numbered
+at-numbered zero i h = omega arith
+at-numbered (suc n) i h =
+    let m : length (numbered n) ≡ n = length-numbered n in
+    cases (eqb i n) (λ t. rw (eqb-true i n t) (getD-at (numbered n) n [] 0 n m))
+    (λ t. List·getD-append (numbered n) (n ∷ []) 0 i (omega (arith, m, eqb-false i n t)) ∙ at-numbered n i (omega (arith, eqb-false i n t)))
+
+-- a list is its elements at 0, 1, ..
+all-places : {A : Type 0} (d : A) (l : List A) → l ≡ map (λ (j : ℕ). getD l j d) (numbered (length l))
+all-places {A} d l =
+    let f : ℕ → A = λ j. getD l j d in
+    let m : length (numbered (length l)) ≡ length l = length-numbered (length l) in
+    ext-getD d l (map f (numbered (length l))) (sym (length-map (numbered (length l)) f ∙ m))
+    (λ i h. sym (at-map f 0 d (numbered (length l)) i (omega (arith, m)) ∙ ap f (at-numbered (length l) i h)))
+
+-- ---- what holds of each of a list of places, and what it is that none is there twice
+abbrev Every : (ℕ → Type 0) → List ℕ → Type 0
+Every P m = (i : ℕ) → i < length m → P (getD m i 0)
+
+abbrev Once : List ℕ → Type 0
+Once m = (a b : ℕ) → a < length m → b < length m → getD m a 0 ≡ getD m b 0 → a ≡ b
+
+module _ (m : List ℕ) (j : ℕ) where
+  low-in : (i : ℕ) → i < length (without 0 m j) → i < length m - 1
+  low-in i h = omega (arith, length-without 0 m j)
+
+  every-without : (P : ℕ → Type 0) → Every P m → Every P (without 0 m j)
+  every-without P h i k = rw (at-without 0 m j i (low-in i k)) (h (standing (length m) j i) (standing-low (length m) j i (low-in i k)))
+
+  once-without : Once m → Once (without 0 m j)
+  once-without h a b p q e =
+      let n = length m in
+      let at : getD m (standing n j a) 0 ≡ getD m (standing n j b) 0 = sym (at-without 0 m j a (low-in a p)) ∙ (e ∙ at-without 0 m j b (low-in b q)) in
+      standing-same n j a b (low-in a p) (low-in b q)
+      (h (standing n j a) (standing n j b) (standing-low n j a (low-in a p)) (standing-low n j b (low-in b q)) at)
+
+  -- what was taken is not among the others
+  gone : Once m → j < length m → Every (λ (x : ℕ). getD m j 0 ≡ x → ⊥) (without 0 m j)
+  gone h low i k e =
+      standing-other (length m) j i (low-in i k)
+      (h j (standing (length m) j i) low (standing-low (length m) j i (low-in i k)) (e ∙ at-without 0 m j i (low-in i k)))
+
+  one-less : (n : ℕ) → length m ≡ n → length (without 0 m j) ≡ n - 1
+  one-less n e = length-without 0 m j ∙ ap (λ (x : ℕ). x - 1) e
+
+every-taken : {k : ℕ} {js : List ℕ} (P : ℕ → Type 0) (m : List ℕ) {n : ℕ} → Picked k js n → length m ≡ n → Every P m → Every P (taken 0 js m)
+unfolding taken
+every-taken P m none e h i k = absurd (not-suc-le-zero k)
+every-taken P m (one {j = j} low p) e h zero k = h j (omega (arith, e))
+every-taken P m {n} (one {j = j} low p) e h (suc i) k = every-taken P (without 0 m j) p (one-less m j n e) (every-without m j P h) i (omega arith)
+
+once-taken : {k : ℕ} {js : List ℕ} (m : List ℕ) {n : ℕ} → Picked k js n → length m ≡ n → Once m → Once (taken 0 js m)
+unfolding taken
+once-taken m none e h a b p q r = omega arith
+once-taken m (one low t) e h zero zero p q r = refl
+once-taken m {n} (one {j = j} low t) e h zero (suc b) p q r =
+    absurd (every-taken (λ (x : ℕ). getD m j 0 ≡ x → ⊥) (without 0 m j) t (one-less m j n e) (gone m j h (omega (arith, e))) b (omega arith) r)
+once-taken m {n} (one {j = j} low t) e h (suc a) zero p q r =
+    absurd (every-taken (λ (x : ℕ). getD m j 0 ≡ x → ⊥) (without 0 m j) t (one-less m j n e) (gone m j h (omega (arith, e))) a (omega arith) (sym r))
+once-taken m {n} (one {j = j} low t) e h (suc a) (suc b) p q r =
+    ap suc (once-taken (without 0 m j) t (one-less m j n e) (once-without m j h) a b (omega arith) (omega arith) r)
+
+-- ---- what is kept
+module _ (js : List ℕ) (n : ℕ) (p : Picked 4 js n) where
+  few-kept : {A : Type 0} (d : A) (l : List A) → length (kept d js l) ≤ 4
+  unfolding kept
+  few-kept d l =
+      cases (leb (length l) 4) (λ t. rw t (leb-true (length l) 4 t)) (λ t. rw (t, length-taken d js l) (picked-few p))
+
+  map-kept : {A B : Type 0} (f : A → B) (a : A) (b : B) (l : List A) → length l ≡ n → kept b js (map f l) ≡ map f (kept a js l)
+  unfolding kept
+  map-kept f a b l e =
+      cases (leb (length l) 4) (λ t. rw (length-map l f, t)) (λ t. rw (length-map l f, t) (map-taken f a b l p e))
+
+  every-kept : (P : ℕ → Type 0) (m : List ℕ) → length m ≡ n → Every P m → Every P (kept 0 js m)
+  unfolding kept
+  every-kept P m e h = cases (leb (length m) 4) (λ t. rw t h) (λ t. rw t (every-taken P m p e h))
+
+  once-kept : (m : List ℕ) → length m ≡ n → Once m → Once (kept 0 js m)
+  unfolding kept
+  once-kept m e h = cases (leb (length m) 4) (λ t. rw t h) (λ t. rw t (once-taken m p e h))
+
+all-of-few : {A : Type 0} (js : List ℕ) (d : A) (l : List A) → length l ≤ 4 → kept d js l ≡ l
+unfolding kept
+all-of-few js d l h = rw (le-leb (length l) 4 h)
+
+-- ---- the theorem
+pub chosen : (direction normal : Vec3) (l : List ClipVertex) → Chosen l (pointsOf direction normal l) (placesOf direction normal l)
+unfolding pointsOf placesOf
+chosen direction normal l =
+    let n = length l in
+    let js = firstPicks direction normal l in
+    let p = first-picked normal direction l in
+    let at : ℕ → ClipVertex = λ j. getD l j pastVertex in
+    let m : length (numbered n) ≡ n = length-numbered n in
+    let once : Once (numbered n) = λ a b h k e. sym (at-numbered n a (omega (arith, m))) ∙ (e ∙ at-numbered n b (omega (arith, m))) in
+    let low : Every (λ (x : ℕ). x < n) (numbered n) = λ i h. rw (at-numbered n i (omega (arith, m))) (omega (arith, m)) in
+    record {
+      few = few-kept js n p pastVertex l;
+      same = ap (kept pastVertex js) (all-places pastVertex l) ∙ map-kept js n p at 0 pastVertex (numbered n) m;
+      below = every-kept js n p (λ (x : ℕ). x < n) (numbered n) m low;
+      apart = λ i j h k e. let q = once-kept js n p (numbered n) m once i j (omega arith) k e in omega arith;
+      all = λ h. sym (all-kept direction normal l h);
+      order = λ h. all-of-few js 0 (numbered n) (omega (arith, m, h));
+    }

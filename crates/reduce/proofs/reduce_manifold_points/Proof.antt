@@ -1,0 +1,38 @@
+-- `reduce_manifold_points`: all of four or fewer, else what the picks take.
+use Prim.Native.Nat.{_≤_}
+use mathlib.Core.Path.{_≡_, ap, _∙_}
+use native.Mathlib.Omega.{arith}
+use lib.ListN.{length, length-map}
+use Rattle.manifold.specs.Polygons.{cornersOf}
+use Rattle.manifold.proofs.Polygons.{length-corners}
+use Rattle.reduce.specs.Reduce.{contactOf}
+use Rattle.reduce.proofs.Picks.{all-kept, picks-kept}
+use Rattle.reduce.proofs.reduce_manifold_points.Statement.{statement}
+use Rattle.reduce.proofs.reduce_manifold_points.Tie as tie
+
+sized : (c : tie.Start) → length (cornersOf (c .args .points)) ≡ c .args .points .count
+sized c =
+    let long : c .args .points .count ≤ length (c .args .points .vertices) = omega (arith, simp length-map at (c .good .0 .1 .1 .0 .1 .0 .1), c .pre) in
+    length-corners (c .args .points) long
+
+all-points-requires : tie.Need-all-points-requires
+all-points-requires c κs = c .if1 .taken
+
+returns : tie.Need-returns
+returns c =
+    let start = c .before .before .before in
+    let a = start .args in
+    c .all-points .ensures ∙ ap (contactOf (a .normal)) (all-kept (a .direction) (a .normal) (cornersOf (a .points)) (omega (arith, sized start, c .before .if1 .taken)))
+
+picked-requires : tie.Need-picked-requires
+picked-requires c κs = (c .before .before .pre, c .if1 .left)
+
+returns-2 : tie.Need-returns-2
+returns-2 c =
+    let start = c .before .before .before in
+    let a = start .args in
+    c .picked .ensures ∙ ap (contactOf (a .normal)) (picks-kept (a .direction) (a .normal) (cornersOf (a .points)) (omega (arith, sized start, c .before .if1 .left)))
+
+pub reduce-manifold-points-spec : {M : Type 1} → statement M
+reduce-manifold-points-spec =
+    tie.close (tie.spec all-points-requires returns picked-requires returns-2)

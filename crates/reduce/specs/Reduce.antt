@@ -1,0 +1,110 @@
+-- "More than four candidates: up to four picks by the scores in `reduce_manifold_points`, each pick's place filled by the last candidate." The points, and beside
+-- them which candidate each point is. Definitions only.
+use Prim.Native.Nat.{ℕ, zero, suc, _-_}
+use mathlib.Core.Bool.{cond, false}
+use mathlib.Core.List.{List, [], _∷_, _++_, map}
+use lib.ListN.{length, take, set, getD, replicate}
+use lib.Dec.{eqb, leb}
+use lib.Ieee as Ieee
+use lib.Ieee.{Float}
+use Rattle.vector.specs.declared.Vec3.{Vec3}
+use Rattle.vector.specs.Rounded.{float, _⊗_}
+use Rattle.vector.specs.Scalar.{absOf}
+use Rattle.vector.specs.Arithmetic.{zeroVec, subOf}
+use Rattle.manifold.specs.declared.ClipVertex.{ClipVertex}
+use Rattle.manifold.specs.declared.Point.{Point}
+use Rattle.manifold.specs.declared.Contact.{Contact}
+use Rattle.manifold.specs.Records.{zeroPoint, pastVertex}
+use Rattle.manifold.specs.Limits.{speculative}
+use Rattle.manifold.specs.Polygons.{turns}
+use Rattle.scores.specs.declared.Best.{Best}
+use Rattle.scores.specs.declared.Triangle.{Triangle}
+use Rattle.scores.specs.Images.{largest}
+use Rattle.scores.specs.Scores.{betterOf, asGoodOf, firstTurn, spreadOf, signedAreaOf, outsideOf, triangleOf}
+
+-- ---- lists from which elements are taken; d is what the logic reads past their end
+-- without the element at j: its place is filled by the last
+unfoldable pub without : {A : Type 0} → A → List A → ℕ → List A
+without d l j = take (length l - 1) (set l j (getD l (length l - 1) d))
+
+-- which of n elements stands at i once the one at j was taken
+unfoldable pub standing : ℕ → ℕ → ℕ → ℕ
+standing n j i = cond (eqb i j) (n - 1) i
+
+-- the elements at these indices, each index in the list as it stands once those before it were taken
+unfoldable pub taken : {A : Type 0} → A → List ℕ → List A → List A
+taken d [] l = []
+taken d (j ∷ js) l = getD l j d ∷ taken d js (without d l j)
+
+-- ---- the searches: the best of a list by each score
+abbrev none : Float → Best
+none score = record { found = false; index = 0; score = score }
+
+abbrev at : List ClipVertex → ℕ → ClipVertex
+at l i = getD l i pastVertex
+
+unfoldable pub firstBest : Vec3 → List ClipVertex → Best
+firstBest direction l = turns (λ (best : Best) (i : ℕ). firstTurn direction best i (at l i)) (none (Ieee.neg largest)) (length l)
+
+unfoldable pub secondBest : Vec3 → Vec3 → List ClipVertex → Best
+secondBest normal a l = turns (λ (best : Best) (i : ℕ). betterOf best i (spreadOf normal a (at l i))) (none (float 0)) (length l)
+
+unfoldable pub thirdBest : Vec3 → Float → Vec3 → Vec3 → List ClipVertex → Best
+thirdBest normal tolerance a b l =
+    turns (λ (best : Best) (i : ℕ). asGoodOf best i (absOf (signedAreaOf normal a (subOf b a) (at l i .position)))) (none tolerance) (length l)
+
+unfoldable pub fourthBest : Vec3 → Float → Triangle → List ClipVertex → Best
+fourthBest normal tolerance t l = turns (λ (best : Best) (i : ℕ). betterOf best i (outsideOf normal t (at l i .position))) (none tolerance) (length l)
+
+-- ---- the picks: the index that each search finds, in the list as it then stands
+-- speculative * speculative
+abbrev pub tolerance : Float
+tolerance = speculative ⊗ speculative
+
+unfoldable pub fourthPicks : Vec3 → ClipVertex → ClipVertex → ClipVertex → List ClipVertex → List ℕ
+fourthPicks normal v1 v2 v3 l =
+    let best = fourthBest normal tolerance (triangleOf normal (v1 .position) (v2 .position) (v3 .position)) l in
+    cond (best .found) (best .index ∷ []) []
+
+unfoldable pub thirdPicks : Vec3 → ClipVertex → ClipVertex → List ClipVertex → List ℕ
+thirdPicks normal v1 v2 l =
+    let best = thirdBest normal tolerance (v1 .position) (v2 .position) l in
+    cond (best .found) (best .index ∷ fourthPicks normal v1 v2 (at l (best .index)) (without pastVertex l (best .index))) []
+
+unfoldable pub secondPicks : Vec3 → ClipVertex → List ClipVertex → List ℕ
+secondPicks normal v1 l =
+    let best = secondBest normal (v1 .position) l in
+    cond (Ieee.lt (best .score) tolerance) [] (best .index ∷ thirdPicks normal v1 (at l (best .index)) (without pastVertex l (best .index)))
+
+unfoldable pub firstPicks : Vec3 → Vec3 → List ClipVertex → List ℕ
+firstPicks direction normal l =
+    let best = firstBest direction l in
+    cond (best .found) (best .index ∷ secondPicks normal (at l (best .index)) (without pastVertex l (best .index))) []
+
+-- ---- the points: all, in order, of four or fewer; else what the picks take
+unfoldable pub kept : {A : Type 0} → A → List ℕ → List A → List A
+kept d picks l = cond (leb (length l) 4) l (taken d picks l)
+
+unfoldable pub pointsOf : Vec3 → Vec3 → List ClipVertex → List ClipVertex
+pointsOf direction normal l = kept pastVertex (firstPicks direction normal l) l
+
+-- 0, 1, .., n - 1
+unfoldable pub numbered : ℕ → List ℕ
+numbered zero = []
+numbered (suc n) = numbered n ++ (n ∷ [])
+
+-- which candidate each point is, by its place in the list before any pick: the same picks, of the places themselves
+unfoldable pub placesOf : Vec3 → Vec3 → List ClipVertex → List ℕ
+placesOf direction normal l = kept 0 (firstPicks direction normal l) (numbered (length l))
+
+-- ---- the contact with these points
+unfoldable pub pointOf : ClipVertex → Point
+pointOf v = record { position = v .position; separation = v .separation; pair = v .pair }
+
+-- the normal of a contact is zero where there are no points
+unfoldable pub normalOf : Vec3 → List ClipVertex → Vec3
+normalOf normal [] = zeroVec
+normalOf normal (v ∷ vs) = normal
+
+unfoldable pub contactOf : Vec3 → List ClipVertex → Contact
+contactOf normal l = record { points = map pointOf l ++ replicate (4 - length l) zeroPoint; normal = normalOf normal l; count = length l }

@@ -1,0 +1,227 @@
+// The reduction to four points, from sat.rs. Nothing is moved while points are picked: where a pick's place is
+// filled by the last candidate, the later searches read the last candidate there. What each point is, and which candidate, is in specs/Reduce.antt.
+pub mod places;
+
+ghost use mathlib.Core.List.{[], _∷_};
+ghost use mathlib.Core.Path.{_≡_};
+ghost use Prim.Native.Nat.{_≤_, _<_};
+ghost use Rattle.manifold.specs.Records.{pastVertex};
+ghost use Rattle.manifold.specs.Polygons.{cornersOf};
+ghost use Rattle.reduce.specs.Reduce.{pointOf, contactOf, taken, firstPicks, pointsOf};
+use crate::places::first_turn;
+use crate::places::standing1;
+use crate::places::standing2;
+use crate::places::standing3;
+use manifold::ClipVertex;
+use manifold::Contact;
+use manifold::Point;
+use manifold::Polygon;
+use manifold::records::empty_contact;
+use manifold::records::zero_point;
+use scores::Best;
+use scores::as_good;
+use scores::better;
+use scores::first_three;
+use scores::outside;
+use scores::signed_area;
+use scores::spread;
+use vector::Vec3;
+use vector::arithmetic::sub;
+use vector::scalar::abs_float;
+
+// What a second pick must reach: the square of the speculative distance.
+const TOLERANCE: f32 = 0.02 * 0.02;
+
+fn point_of(v: ClipVertex) -> Point
+    ensures { λ r. ⌜ r ≡ pointOf v ⌝ }
+{
+    let position = v.position;
+    let pair = v.pair;
+    Point {
+        position,
+        separation: v.separation,
+        pair,
+    }
+}
+
+fn one_point(v1: ClipVertex, normal: Vec3) -> Contact
+    ensures { λ r. ⌜ r ≡ contactOf normal (v1 ∷ []) ⌝ }
+{
+    let zero = zero_point();
+    let p1 = point_of(v1);
+    Contact {
+        points: [p1, zero, zero, zero],
+        normal,
+        count: 1,
+    }
+}
+
+fn two_points(v1: ClipVertex, v2: ClipVertex, normal: Vec3) -> Contact
+    ensures { λ r. ⌜ r ≡ contactOf normal (v1 ∷ v2 ∷ []) ⌝ }
+{
+    let zero = zero_point();
+    let p1 = point_of(v1);
+    let p2 = point_of(v2);
+    Contact {
+        points: [p1, p2, zero, zero],
+        normal,
+        count: 2,
+    }
+}
+
+fn three_points(v1: ClipVertex, v2: ClipVertex, v3: ClipVertex, normal: Vec3) -> Contact
+    ensures { λ r. ⌜ r ≡ contactOf normal (v1 ∷ v2 ∷ v3 ∷ []) ⌝ }
+{
+    let zero = zero_point();
+    let p1 = point_of(v1);
+    let p2 = point_of(v2);
+    let p3 = point_of(v3);
+    Contact {
+        points: [p1, p2, p3, zero],
+        normal,
+        count: 3,
+    }
+}
+
+fn four_points(
+    v1: ClipVertex,
+    v2: ClipVertex,
+    v3: ClipVertex,
+    v4: ClipVertex,
+    normal: Vec3,
+) -> Contact
+    ensures { λ r. ⌜ r ≡ contactOf normal (v1 ∷ v2 ∷ v3 ∷ v4 ∷ []) ⌝ }
+{
+    let p1 = point_of(v1);
+    let p2 = point_of(v2);
+    let p3 = point_of(v3);
+    let p4 = point_of(v4);
+    Contact {
+        points: [p1, p2, p3, p4],
+        normal,
+        count: 4,
+    }
+}
+
+// All of four or fewer, in order.
+fn all_points(points: Polygon, normal: Vec3) -> Contact
+    requires { ⌜ points .count ≤ 4 ⌝ }
+    ensures { λ r. ⌜ r ≡ contactOf normal (cornersOf points) ⌝ }
+{
+    let n = points.count;
+    if n == 0 {
+        return empty_contact();
+    }
+    let v1 = points.vertices[0];
+    if n == 1 {
+        return one_point(v1, normal);
+    }
+    let v2 = points.vertices[1];
+    if n == 2 {
+        return two_points(v1, v2, normal);
+    }
+    let v3 = points.vertices[2];
+    if n == 3 {
+        return three_points(v1, v2, v3, normal);
+    }
+    four_points(v1, v2, v3, points.vertices[3], normal)
+}
+
+// Up to four picks of more than four images: one function, so that the polygon is copied once.
+fn picked(points: Polygon, normal: Vec3, direction: Vec3) -> Contact
+    requires { ⌜ (points .count ≤ 64) × (4 < points .count) ⌝ }
+    ensures { λ r. ⌜ r ≡ contactOf normal (taken pastVertex (firstPicks direction normal (cornersOf points)) (cornersOf points)) ⌝ }
+{
+    let n = points.count;
+    // The first: farthest along `direction`.
+    let mut first = Best {
+        found: false,
+        index: 0,
+        score: -3.4028235e38,
+    };
+    let mut i = 0;
+    while i < n {
+        let v = points.vertices[i];
+        first = first_turn(first, i, v, direction);
+        i += 1;
+    }
+    if !first.found {
+        return empty_contact();
+    }
+    let j1 = first.index;
+    let v1 = points.vertices[j1];
+    let a = v1.position;
+    // The second: farthest from the first, across the normal, if that is far enough.
+    let left2 = n - 1;
+    let mut second = Best {
+        found: false,
+        index: 0,
+        score: 0.0,
+    };
+    let mut i2 = 0;
+    while i2 < left2 {
+        let place = standing1(n, j1, i2);
+        let v = points.vertices[place];
+        second = better(second, i2, spread(v, a, normal));
+        i2 += 1;
+    }
+    if second.score < TOLERANCE {
+        return one_point(v1, normal);
+    }
+    let j2 = second.index;
+    let place2 = standing1(n, j1, j2);
+    let v2 = points.vertices[place2];
+    let b = v2.position;
+    let ba = sub(b, a);
+    // The third: makes the largest triangle with both, if that is large enough.
+    let left3 = n - 2;
+    let mut third = Best {
+        found: false,
+        index: 0,
+        score: TOLERANCE,
+    };
+    let mut i3 = 0;
+    while i3 < left3 {
+        let place = standing2(n, j1, j2, i3);
+        let v = points.vertices[place];
+        third = as_good(third, i3, abs_float(signed_area(v.position, a, ba, normal)));
+        i3 += 1;
+    }
+    if !third.found {
+        return two_points(v1, v2, normal);
+    }
+    let j3 = third.index;
+    let place3 = standing2(n, j1, j2, j3);
+    let v3 = points.vertices[place3];
+    let t = first_three(a, b, v3.position, normal);
+    // The fourth: adds the most area outside that triangle, if that is enough.
+    let left4 = n - 3;
+    let mut fourth = Best {
+        found: false,
+        index: 0,
+        score: TOLERANCE,
+    };
+    let mut i4 = 0;
+    while i4 < left4 {
+        let place = standing3(n, j1, j2, j3, i4);
+        let v = points.vertices[place];
+        fourth = better(fourth, i4, outside(v.position, t, normal));
+        i4 += 1;
+    }
+    if !fourth.found {
+        return three_points(v1, v2, v3, normal);
+    }
+    let place4 = standing3(n, j1, j2, j3, fourth.index);
+    four_points(v1, v2, v3, points.vertices[place4], normal)
+}
+
+// At most four points of these images: all of them, in order, where there are four or fewer. The first pick is the one farthest along `direction`.
+pub fn reduce_manifold_points(points: Polygon, normal: Vec3, direction: Vec3) -> Contact
+    requires { ⌜ points .count ≤ 64 ⌝ }
+    ensures { λ r. ⌜ r ≡ contactOf normal (pointsOf direction normal (cornersOf points)) ⌝ }
+{
+    if points.count <= 4 {
+        return all_points(points, normal);
+    }
+    picked(points, normal, direction)
+}

@@ -1,0 +1,288 @@
+//! The cuts of a polygon, the picks of at most four points, and the candidates of a face contact.
+
+use super::{first_broken_rule, FeaturePair, HullSize, Plane, Transform, Vec3};
+
+/// The most corners of a polygon, and the most points of a contact.
+pub const MAX_CLIP_POINTS: usize = 64;
+pub const MAX_MANIFOLD_POINTS: usize = 4;
+
+/// A corner of a polygon, or a candidate, with its distance from the reference face.
+#[derive(Debug, Clone, Copy)]
+#[repr(C)]
+pub struct ClipVertex {
+    pub position: Vec3,
+    pub separation: f32,
+    pub pair: FeaturePair,
+}
+
+/// The places at and above the count are zero.
+#[derive(Debug, Clone, Copy)]
+#[repr(C)]
+pub struct Polygon {
+    pub vertices: [ClipVertex; MAX_CLIP_POINTS],
+    pub count: usize,
+}
+
+/// What cuts leave: the first 64 corners, and whether there was a 65th.
+#[derive(Debug, Clone, Copy)]
+#[repr(C)]
+pub struct Clipped {
+    pub polygon: Polygon,
+    pub full: bool,
+}
+
+#[derive(Debug, Clone, Copy)]
+#[repr(C)]
+pub struct Point {
+    pub position: Vec3,
+    pub separation: f32,
+    pub pair: FeaturePair,
+}
+
+/// The places at and above the count are zero, and so is the normal where the count is 0.
+#[derive(Debug, Clone, Copy)]
+#[repr(C)]
+pub struct Contact {
+    pub points: [Point; MAX_MANIFOLD_POINTS],
+    pub normal: Vec3,
+    pub count: u8,
+}
+
+mod linked {
+    use super::*;
+
+    extern "C" {
+        pub fn probe_clip_polygon(
+            polygon: Polygon,
+            plane: Plane,
+            edge: u8,
+            reference: Plane,
+        ) -> Clipped;
+        pub fn probe_clip_rounds(
+            polygon: Polygon,
+            plane: Plane,
+            edge: u8,
+            reference: Plane,
+            rounds: usize,
+        ) -> usize;
+        pub fn probe_images(candidates: Polygon, normal: Vec3) -> Polygon;
+        pub fn probe_least_separation(candidates: Polygon) -> f32;
+        pub fn probe_touching(count: usize, least: f32) -> bool;
+        pub fn probe_reduce_manifold_points(
+            points: Polygon,
+            normal: Vec3,
+            direction: Vec3,
+        ) -> Contact;
+        pub fn probe_reduce_rounds(
+            points: Polygon,
+            normal: Vec3,
+            direction: Vec3,
+            rounds: usize,
+        ) -> usize;
+        pub fn probe_find_incident_face(
+            numbers: *const f32,
+            numbers_len: usize,
+            links: *const u8,
+            links_len: usize,
+            size: HullSize,
+            normal: Vec3,
+            vertex: usize,
+        ) -> usize;
+        pub fn probe_build_polygon(
+            numbers: *const f32,
+            numbers_len: usize,
+            links: *const u8,
+            links_len: usize,
+            size: HullSize,
+            transform: Transform,
+            face: usize,
+            reference: Plane,
+        ) -> Polygon;
+        pub fn probe_candidates(
+            numbers_a: *const f32,
+            numbers_a_len: usize,
+            links_a: *const u8,
+            links_a_len: usize,
+            size_a: HullSize,
+            numbers_b: *const f32,
+            numbers_b_len: usize,
+            links_b: *const u8,
+            links_b_len: usize,
+            size_b: HullSize,
+            transform: Transform,
+            face: usize,
+            vertex: usize,
+        ) -> Clipped;
+    }
+}
+
+impl Polygon {
+    /// These corners in their order. Panics where there are more than 64.
+    pub fn new(corners: &[ClipVertex]) -> Polygon {
+        let zero = ClipVertex {
+            position: Vec3 {
+                x: 0.0,
+                y: 0.0,
+                z: 0.0,
+            },
+            separation: 0.0,
+            pair: FeaturePair {
+                owner1: 0,
+                index1: 0,
+                owner2: 0,
+                index2: 0,
+            },
+        };
+        let mut vertices = [zero; MAX_CLIP_POINTS];
+        vertices[..corners.len()].copy_from_slice(corners);
+        Polygon {
+            vertices,
+            count: corners.len(),
+        }
+    }
+
+    /// The corners below the count.
+    pub fn corners(&self) -> &[ClipVertex] {
+        &self.vertices[..self.count]
+    }
+}
+
+/// A lent hull that the library has accepted. Judged once, it serves any number of calls.
+#[derive(Debug, Clone, Copy)]
+pub struct Accepted<'a> {
+    numbers: &'a [f32],
+    links: &'a [u8],
+    size: HullSize,
+}
+
+impl<'a> Accepted<'a> {
+    /// The hull, if it breaks no rule.
+    pub fn new(numbers: &'a [f32], links: &'a [u8], size: HullSize) -> Option<Self> {
+        let accepted = first_broken_rule(numbers, links, size) == 0;
+        accepted.then_some(Accepted {
+            numbers,
+            links,
+            size,
+        })
+    }
+}
+
+/// Panics where the polygon has no corner or more than 64.
+#[inline]
+pub fn clip_polygon(polygon: &Polygon, plane: Plane, edge: u8, reference: Plane) -> Clipped {
+    assert!(0 < polygon.count && polygon.count <= MAX_CLIP_POINTS);
+    unsafe { linked::probe_clip_polygon(*polygon, plane, edge, reference) }
+}
+
+/// The most rounds of one call.
+pub const MOST_ROUNDS: usize = 65536;
+
+/// So many cuts inside the library, and how many corners they leave together. Panics where the polygon has no corner or
+/// more than 64, or there are too many rounds.
+pub fn clip_rounds(
+    polygon: &Polygon,
+    plane: Plane,
+    edge: u8,
+    reference: Plane,
+    rounds: usize,
+) -> usize {
+    assert!(0 < polygon.count && polygon.count <= MAX_CLIP_POINTS && rounds <= MOST_ROUNDS);
+    unsafe { linked::probe_clip_rounds(*polygon, plane, edge, reference, rounds) }
+}
+
+/// Panics where there are more than 64 candidates.
+pub fn images(candidates: &Polygon, normal: Vec3) -> Polygon {
+    assert!(candidates.count <= MAX_CLIP_POINTS);
+    unsafe { linked::probe_images(*candidates, normal) }
+}
+
+/// Panics where there are more than 64 candidates.
+pub fn least_separation(candidates: &Polygon) -> f32 {
+    assert!(candidates.count <= MAX_CLIP_POINTS);
+    unsafe { linked::probe_least_separation(*candidates) }
+}
+
+pub fn touching(count: usize, least: f32) -> bool {
+    unsafe { linked::probe_touching(count, least) }
+}
+
+/// The first pick searches along `direction`. Panics where there are more than 64 candidates.
+#[inline]
+pub fn reduce_manifold_points(points: &Polygon, normal: Vec3, direction: Vec3) -> Contact {
+    assert!(points.count <= MAX_CLIP_POINTS);
+    unsafe { linked::probe_reduce_manifold_points(*points, normal, direction) }
+}
+
+/// So many reductions inside the library, and how many points they leave together. Panics where there are more than 64
+/// candidates or too many rounds.
+pub fn reduce_rounds(points: &Polygon, normal: Vec3, direction: Vec3, rounds: usize) -> usize {
+    assert!(points.count <= MAX_CLIP_POINTS && rounds <= MOST_ROUNDS);
+    unsafe { linked::probe_reduce_rounds(*points, normal, direction, rounds) }
+}
+
+/// Panics where the hull has no such vertex.
+pub fn find_incident_face(hull: Accepted, normal: Vec3, vertex: usize) -> usize {
+    assert!(vertex < hull.size.vertices);
+    unsafe {
+        linked::probe_find_incident_face(
+            hull.numbers.as_ptr(),
+            hull.numbers.len(),
+            hull.links.as_ptr(),
+            hull.links.len(),
+            hull.size,
+            normal,
+            vertex,
+        )
+    }
+}
+
+/// Panics where the hull has no such face.
+pub fn build_polygon(
+    hull: Accepted,
+    transform: Transform,
+    face: usize,
+    reference: Plane,
+) -> Polygon {
+    assert!(face < hull.size.faces);
+    unsafe {
+        linked::probe_build_polygon(
+            hull.numbers.as_ptr(),
+            hull.numbers.len(),
+            hull.links.as_ptr(),
+            hull.links.len(),
+            hull.size,
+            transform,
+            face,
+            reference,
+        )
+    }
+}
+
+/// Panics where A has no such face or B no such vertex.
+#[inline]
+pub fn candidates(
+    a: Accepted,
+    b: Accepted,
+    transform: Transform,
+    face: usize,
+    vertex: usize,
+) -> Clipped {
+    assert!(face < a.size.faces && vertex < b.size.vertices);
+    unsafe {
+        linked::probe_candidates(
+            a.numbers.as_ptr(),
+            a.numbers.len(),
+            a.links.as_ptr(),
+            a.links.len(),
+            a.size,
+            b.numbers.as_ptr(),
+            b.numbers.len(),
+            b.links.as_ptr(),
+            b.links.len(),
+            b.size,
+            transform,
+            face,
+            vertex,
+        )
+    }
+}

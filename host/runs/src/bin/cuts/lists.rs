@@ -1,0 +1,130 @@
+//! Lists of candidates for the picks, each candidate with its own place in the list as its first owner.
+
+use super::images::SPECULATIVE;
+use probes::{ClipVertex, FeaturePair, Polygon, Vec3};
+use runs::inputs::{rounded, vector};
+use runs::shapes::solids::frame;
+use runs::Numbers;
+use std::f64::consts::TAU;
+
+/// A normal and 0 to 64 candidates, most of them about a plane across it.
+pub fn any(n: &mut Numbers) -> (Vec3, Vec<ClipVertex>) {
+    let [u, v, w] = match n.below(3) {
+        0 => [[1.0, 0.0, 0.0], [0.0, 1.0, 0.0], [0.0, 0.0, 1.0]],
+        1 => [[0.0, 1.0, 0.0], [0.0, 0.0, -1.0], [-1.0, 0.0, 0.0]],
+        _ => frame(n),
+    };
+    let normal = match n.below(16) {
+        0 => vector(n),
+        _ => rounded(w),
+    };
+    let size = match n.below(4) {
+        0 => n.below(6),
+        1 => 5 + n.below(12),
+        2 => n.below(65),
+        _ => 60 + n.below(5),
+    };
+    let flat = flat_places(size, n);
+    let rough = [0.0, 0.0, 0.01, 1.0][n.below(4)];
+    let mut list: Vec<ClipVertex> = flat
+        .into_iter()
+        .zip(separations(size, n))
+        .enumerate()
+        .map(|(place, ([x, y], separation))| {
+            let z = rough * n.between(-1.0, 1.0);
+            let position = [0, 1, 2].map(|axis| x * u[axis] + y * v[axis] + z * w[axis]);
+            ClipVertex {
+                position: rounded(position),
+                separation,
+                pair: FeaturePair {
+                    owner1: place as u8,
+                    ..pair(n)
+                },
+            }
+        })
+        .collect();
+    if n.below(8) == 0 {
+        for _ in 0..1 + n.below(1 + size) {
+            if let Some(v) = list.get_mut(n.below(64)) {
+                v.position = vector(n);
+            }
+        }
+    }
+    (normal, list)
+}
+
+/// Places in a plane: anywhere, round a circle, on a line and nearly, at one place, two at each, on a grid, in a
+/// triangle, close together.
+fn flat_places(size: usize, n: &mut Numbers) -> Vec<[f64; 2]> {
+    let reach = [0.001, 0.02, 0.1, 1.0, 1.0, 10.0, 1000.0][n.below(7)];
+    let middle = [n.between(-3.0, 3.0), n.between(-3.0, 3.0)];
+    let sort = n.below(9);
+    let slope = n.between(-2.0, 2.0);
+    let mut list: Vec<[f64; 2]> = Vec::new();
+    for i in 0..size {
+        let (a, b) = (n.between(-1.0, 1.0), n.between(-1.0, 1.0));
+        let turn = TAU * i as f64 / size as f64;
+        list.push(match sort {
+            0 => [a, b],
+            1 => [turn.cos(), turn.sin()],
+            2 => [a, slope * a],
+            3 => [a, slope * a + 1e-3 * b / reach],
+            4 => [0.0; 2],
+            5 if i % 2 == 1 => list[i - 1],
+            5 => [a, b],
+            6 => [n.below(5) as f64 - 2.0, n.below(5) as f64 - 2.0],
+            7 if i < 3 => [(TAU * i as f64 / 3.0).cos(), (TAU * i as f64 / 3.0).sin()],
+            7 => [0.3 * a, 0.3 * b],
+            _ => [0.01 * a, 0.01 * b],
+        });
+    }
+    if sort == 7 {
+        let order = n.order(size);
+        list = order.into_iter().map(|i| list[i]).collect();
+    }
+    let stay = sort == 6 || n.below(2) == 0;
+    list.into_iter()
+        .map(|[x, y]| match stay {
+            true => [reach * x, reach * y],
+            false => [reach * x + middle[0], reach * y + middle[1]],
+        })
+        .collect()
+}
+
+/// About the speculative distance, all beyond it, all alike, some way deep, or floats of any sort.
+fn separations(size: usize, n: &mut Numbers) -> Vec<f32> {
+    let near = [SPECULATIVE, SPECULATIVE.next_up(), SPECULATIVE.next_down()];
+    let alike = [0.0, -0.0, -0.01, near[n.below(3)]][n.below(4)];
+    let sort = n.below(7);
+    let mut separation = || match sort {
+        0 => near[n.below(3)],
+        1 => SPECULATIVE.next_up() + (n.fraction() + 1.0),
+        2 => alike,
+        3 => n.float(),
+        4 => n.fraction() * 1e-3,
+        _ => n.fraction() * 0.05,
+    };
+    (0..size).map(|_| separation()).collect()
+}
+
+/// The list as a polygon, with anything in the places after it.
+pub fn lent(list: &[ClipVertex], n: &mut Numbers) -> Polygon {
+    let mut polygon = Polygon::new(list);
+    polygon.vertices[list.len()..].fill(ClipVertex {
+        position: vector(n),
+        separation: n.float(),
+        pair: pair(n),
+    });
+    polygon
+}
+
+/// Any tag.
+pub fn pair(n: &mut Numbers) -> FeaturePair {
+    let [owner1, index1, owner2, index2, ..] = n.word().to_le_bytes();
+    FeaturePair {
+        owner1,
+        index1,
+        owner2,
+        index2,
+    }
+}

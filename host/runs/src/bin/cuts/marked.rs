@@ -1,0 +1,102 @@
+//! Document 01's examples of a cut, and the cut that passes through a corner, with the answers that it gives.
+
+use super::hold::polygon_is;
+use probes::{ClipVertex, Clipped, FeaturePair, Plane, Polygon, Vec3};
+use runs::shapes::solids::polygon;
+use runs::Tally;
+
+/// The half-edge that cuts.
+const EDGE: u8 = 9;
+
+fn at(x: f32, y: f32) -> Vec3 {
+    Vec3 { x, y, z: 0.0 }
+}
+
+fn corner(x: f32, y: f32, [owner1, index1, owner2, index2]: [u8; 4]) -> ClipVertex {
+    ClipVertex {
+        position: at(x, y),
+        separation: 0.0,
+        pair: FeaturePair {
+            owner1,
+            index1,
+            owner2,
+            index2,
+        },
+    }
+}
+
+/// Cut to x at most `limit`; the reference face lies in the corners' own plane.
+fn cut(corners: &[ClipVertex], limit: f32) -> Clipped {
+    let plane = Plane {
+        normal: at(1.0, 0.0),
+        offset: limit,
+    };
+    let reference = Plane {
+        normal: Vec3 {
+            x: 0.0,
+            y: 0.0,
+            z: 1.0,
+        },
+        offset: 0.0,
+    };
+    probes::clip_polygon(&Polygon::new(corners), plane, EDGE, reference)
+}
+
+pub fn rows() -> Tally {
+    let mut t = Tally::default();
+    let square = [
+        corner(0.0, 0.0, [1, 6, 1, 0]),
+        corner(2.0, 0.0, [1, 0, 1, 2]),
+        corner(2.0, 2.0, [1, 2, 1, 4]),
+        corner(0.0, 2.0, [1, 4, 1, 6]),
+    ];
+    let half = [
+        square[0],
+        corner(1.0, 0.0, [1, 0, 0, EDGE]),
+        corner(1.0, 2.0, [0, EDGE, 1, 4]),
+        square[3],
+    ];
+    // Two corners lie on the plane: both are kept, and the outline leaves and enters at their positions once more.
+    let diamond = [
+        corner(0.0, 0.0, [1, 6, 1, 0]),
+        corner(2.0, -2.0, [1, 0, 1, 2]),
+        corner(4.0, 0.0, [1, 2, 1, 4]),
+        corner(2.0, 2.0, [1, 4, 1, 6]),
+    ];
+    let halved = [
+        diamond[0],
+        diamond[1],
+        corner(2.0, -2.0, [1, 2, 0, EDGE]),
+        corner(2.0, 2.0, [0, EDGE, 1, 4]),
+        diamond[3],
+    ];
+    for (what, corners, limit, left) in [
+        ("square to 1", square, 1.0, &half[..]),
+        ("square to 2", square, 2.0, &square[..]),
+        ("square to -1", square, -1.0, &[]),
+        ("diamond to 2", diamond, 2.0, &halved[..]),
+    ] {
+        let ours = cut(&corners, limit);
+        t.compare(!ours.full && polygon_is(&ours.polygon, left), || {
+            format!("{what}: {:?}, full {}", ours.polygon.corners(), ours.full)
+        });
+    }
+    for (sides, limit, count, full) in [
+        (64, 0.999, 64, true),
+        (64, 2.0, 64, false),
+        (63, 0.999, 64, false),
+    ] {
+        let round: Vec<ClipVertex> = polygon(sides, 1.0)
+            .into_iter()
+            .map(|[x, y]| corner(x as f32, y as f32, [0; 4]))
+            .collect();
+        let ours = cut(&round, limit);
+        t.compare(ours.full == full && ours.polygon.count == count, || {
+            format!(
+                "{sides}-gon to {limit}: {}, full {}",
+                ours.polygon.count, ours.full
+            )
+        });
+    }
+    t
+}

@@ -1,0 +1,194 @@
+//! The candidates of a face contact beside the cuts of the text's `build_face_a_contact`, and from the candidates to
+//! the points beside the text's whole call.
+
+use super::pairs::{self, accepted, Pair};
+use super::{met, one_in};
+use crate::hold::{contact_is, polygon_is};
+use crate::picks;
+use oracle::hull::HullData;
+use oracle::math_functions::{mul_sv, Quat, Transform};
+use oracle::open::{collide_hulls, search, LocalManifold, SatCache, SeparatingFeature};
+use oracle::quiet;
+use oracle::transcribed::FaceCuts;
+use probes::{ClipVertex, Clipped, MAX_CLIP_POINTS, MAX_MANIFOLD_POINTS};
+use runs::{convert, inputs, same, Numbers, Tally};
+
+/// Both hulls in both records.
+struct Both {
+    pair: Pair,
+    a: HullData,
+    b: HullData,
+}
+
+#[derive(Default)]
+struct Met {
+    full_cuts: u64,
+    one_or_two: u64,
+    without_face: u64,
+    touching: u64,
+    apart: u64,
+    full: u64,
+    reduced: u64,
+    left_out: u64,
+}
+
+pub fn run(n: &mut Numbers, count: usize) -> bool {
+    let (mut cuts, mut calls) = (Tally::default(), Tally::default());
+    let mut m = Met::default();
+    for _ in 0..count / 2 {
+        let pair = pairs::any(n);
+        let (a, b) = (convert::hull(&pair.a), convert::hull(&pair.b));
+        let both = Both { pair, a, b };
+        for i in 0..3 {
+            let (a, b) = (both.pair.a.size, both.pair.b.size);
+            let (face, vertex) = (n.below(a.faces), n.below(b.vertices));
+            let transform = match i {
+                0 => convert::transform(inputs::transform(n)),
+                1 => overflowing(both.pair.transform, n),
+                _ => both.pair.transform,
+            };
+            candidates(&mut cuts, &mut m, &both, transform, face, vertex);
+        }
+        let transform = both.pair.transform;
+        let axis = search(&both.a, &both.b, transform, false).face_a;
+        match (usize::try_from(axis.index_a), usize::try_from(axis.index_b)) {
+            (Ok(face), Ok(vertex)) if vertex < both.pair.b.size.vertices => {
+                candidates(&mut cuts, &mut m, &both, transform, face, vertex);
+                whole(&mut calls, &mut m, &both, face, vertex);
+            }
+            _ => m.left_out += 1,
+        }
+    }
+    let few = one_in(2000, count);
+    cuts.report("candidates of a face contact")
+        & met(&[
+            ("a 65th corner put out", m.full_cuts, few),
+            ("one or two corners left", m.one_or_two, few),
+            (
+                "no incident face in the text, the transform refused",
+                m.without_face,
+                0,
+            ),
+        ])
+        & calls.report("face contacts, candidates to points")
+        & met(&[
+            ("touching", m.touching, one_in(5, count)),
+            ("of more than four candidates", m.reduced, one_in(20, count)),
+            ("not touching", m.apart, one_in(100, count)),
+            ("a 65th corner put out", m.full, few),
+            (
+                "left out, since the search has no face or no vertex",
+                m.left_out,
+                0,
+            ),
+        ])
+}
+
+/// A quaternion so long that some coordinates overflow and others do not. A cut leaves one or two corners only where
+/// some distances are NaN.
+fn overflowing(t: Transform, n: &mut Numbers) -> Transform {
+    let by = 10f32.powf(n.between(18.0, 19.3) as f32);
+    let q = Quat {
+        v: mul_sv(by, t.q.v),
+        s: by * t.q.s,
+    };
+    Transform { p: t.p, q }
+}
+
+fn ours(both: &Both, transform: Transform, face: usize, vertex: usize) -> Clipped {
+    let (a, b) = (accepted(&both.pair.a), accepted(&both.pair.b));
+    probes::candidates(a, b, convert::our_transform(transform), face, vertex)
+}
+
+/// One comparison. Where the text panics for want of an incident face, it is that the transform is not an accepted one.
+fn candidates(
+    t: &mut Tally,
+    m: &mut Met,
+    both: &Both,
+    transform: Transform,
+    face: usize,
+    vertex: usize,
+) {
+    let (i, j) = (face as i32, vertex as i32);
+    let Some(whole) = quiet(|| {
+        let mut cuts = FaceCuts::<128>::default();
+        cuts.cut(&both.a, &both.b, transform, i, j);
+        cuts.left()
+    }) else {
+        let refused = !probes::transform_accepted(convert::our_transform(transform));
+        t.compare(refused, || {
+            format!("no incident face at {vertex} for {face} by {transform:?}")
+        });
+        m.without_face += 1;
+        return;
+    };
+    let panics =
+        quiet(|| FaceCuts::<64>::default().cut(&both.a, &both.b, transform, i, j)).is_none();
+    let whole: Vec<ClipVertex> = whole.iter().map(convert::our_corner).collect();
+    let kept = &whole[..whole.len().min(MAX_CLIP_POINTS)];
+    let ours = ours(both, transform, face, vertex);
+    t.compare(
+        ours.full == panics && polygon_is(&ours.polygon, kept),
+        || {
+            let Pair { a, b, .. } = &both.pair;
+            format!(
+                "candidates of {face}, {vertex} by {transform:?}: {ours:?}, {kept:?}: {a:?} {b:?}"
+            )
+        },
+    );
+    m.full_cuts += u64::from(panics);
+    m.one_or_two += u64::from([1, 2].contains(&kept.len()));
+}
+
+/// The text's call with a cache that asks for face A, beside the candidates, their images and the picks.
+fn whole(t: &mut Tally, m: &mut Met, both: &Both, face: usize, vertex: usize) {
+    let transform = both.pair.transform;
+    let theirs = quiet(|| {
+        let mut manifold = LocalManifold::default();
+        let mut cache = SatCache {
+            type_: SeparatingFeature::ManualFaceAxisA as u8,
+            ..SatCache::default()
+        };
+        let capacity = MAX_MANIFOLD_POINTS as i32;
+        collide_hulls(
+            &mut manifold,
+            capacity,
+            &both.a,
+            &both.b,
+            transform,
+            &mut cache,
+        );
+        (manifold, cache)
+    });
+    let cut = ours(both, transform, face, vertex);
+    let normal = convert::ours(both.a.planes[face].normal);
+    let least = probes::least_separation(&cut.polygon);
+    let touching = probes::touching(cut.polygon.count, least);
+    let equal = match theirs {
+        None => cut.full,
+        Some((manifold, cache)) if touching => {
+            let images = probes::images(&cut.polygon, normal);
+            let contact = picks::contact(&images, normal);
+            let made = &manifold.points[..manifold.point_count as usize];
+            let made: Vec<ClipVertex> = made.iter().map(convert::our_point).collect();
+            let next = (SeparatingFeature::FaceAxisA as u8, face as u8, vertex as u8);
+            !cut.full
+                && contact_is(&contact, convert::ours(manifold.normal), &made)
+                && same(cache.separation, least)
+                && (cache.type_, cache.index_a, cache.index_b) == next
+        }
+        Some((manifold, cache)) => {
+            !cut.full
+                && manifold.point_count == 0
+                && cache.type_ == SeparatingFeature::InvalidAxis as u8
+        }
+    };
+    t.compare(equal, || {
+        let Pair { a, b, .. } = &both.pair;
+        format!("contact of {face}, {vertex} by {transform:?}: {cut:?}, {theirs:?}: {a:?} {b:?}")
+    });
+    m.full += u64::from(theirs.is_none());
+    m.touching += u64::from(theirs.is_some() && touching);
+    m.apart += u64::from(theirs.is_some() && !touching);
+    m.reduced += u64::from(theirs.is_some() && touching && cut.polygon.count > 4);
+}

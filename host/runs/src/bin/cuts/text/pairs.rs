@@ -1,0 +1,173 @@
+//! Pairs of hulls about each other's surfaces.
+
+use oracle::math_functions::*;
+use probes::Accepted;
+use runs::shapes::kinds::COMPACT;
+use runs::shapes::solids::{block, pyramid, two_sided, Solid};
+use runs::shapes::{Link, Shape};
+use runs::{convert, inputs, Numbers};
+use std::f32::consts::TAU;
+
+pub struct Pair {
+    pub a: Shape,
+    pub b: Shape,
+    pub transform: Transform,
+}
+
+/// The shape as the library has accepted it.
+pub fn accepted(shape: &Shape) -> Accepted<'_> {
+    Accepted::new(&shape.numbers, &shape.links, shape.size).expect("the hull is good")
+}
+
+/// A polygon of 65 to 122 corners with both its sides, beside a tetrahedron.
+pub fn long_rings(n: &mut Numbers) -> Solid {
+    let apart = [0.0, 0.0, n.between(6.0, 8.0)];
+    two_sided(65 + n.below(58), n.between(0.5, 5.0)).joined(&pyramid(3, 1.0, 1.0).moved(apart))
+}
+
+/// The half-edges of a face, from its stored one.
+pub fn ring(shape: &Shape, face: usize) -> Vec<usize> {
+    let first = shape.links[shape.face_edge(face)].into();
+    let mut ring = vec![first];
+    loop {
+        let next = shape.get(ring[ring.len() - 1], Link::Next);
+        if next == first {
+            return ring;
+        }
+        ring.push(next);
+    }
+}
+
+pub fn vertex(shape: &Shape, number: usize) -> Vec3 {
+    let [x, y, z] = shape.vertex(number);
+    Vec3 { x, y, z }
+}
+
+pub fn normal(shape: &Shape, face: usize) -> Vec3 {
+    let from = shape.plane(face);
+    let [x, y, z] = [0, 1, 2].map(|i| shape.numbers[from + i]);
+    Vec3 { x, y, z }
+}
+
+/// Often one of 64 corners, where a cut that takes one corner puts out a 65th.
+fn solid(n: &mut Numbers) -> Solid {
+    match n.below(16) {
+        0 => long_rings(n),
+        1..=4 => pyramid(64, 1.0, 1.0),
+        5 => block([1.0, 5.0, 1.0]),
+        _ => COMPACT[n.below(COMPACT.len())].1(n),
+    }
+}
+
+/// A face laid on a face, straight or a little tilted; a corner set on a face; boxes side by side; or anyhow.
+pub fn any(n: &mut Numbers) -> Pair {
+    let mut solid = || {
+        let solid = solid(n);
+        let solid = if n.below(2) == 0 {
+            solid
+        } else {
+            solid.turned(n)
+        };
+        Shape::any(&solid, n)
+    };
+    let (a, b) = (solid(), solid());
+    let (face, other) = (any_face(&a, n), any_face(&b, n));
+    let (up, down) = (normal(&a, face), neg(normal(&b, other)));
+    let gap = [0.0, -0.001, n.fraction() * 0.03, n.fraction() * 0.1][n.below(4)];
+    let place = mul_add(on_face(&a, face, n), gap, up);
+    let laid = after(spin(up, TAU * n.fraction()), turning(down, up));
+    let (q, carried) = match n.below(8) {
+        0..=2 => (laid, on_face(&b, other, n)),
+        3 => {
+            let tilt = spin(normal(&b, 0), 0.02 * n.fraction());
+            (after(tilt, laid), on_face(&b, other, n))
+        }
+        4 | 5 => {
+            let q = convert::rotation(inputs::rotation(n));
+            (q, deepest(&b, q, up))
+        }
+        6 => {
+            let q = spin(up, 0.0);
+            (q, deepest(&b, q, up))
+        }
+        _ => (convert::rotation(inputs::rotation(n)), vertex(&b, 0)),
+    };
+    let p = sub(place, rotate_vector(q, carried));
+    Pair {
+        a,
+        b,
+        transform: Transform { p, q },
+    }
+}
+
+/// Any face, or one with the longest ring.
+fn any_face(shape: &Shape, n: &mut Numbers) -> usize {
+    let any = n.below(shape.size.faces);
+    if n.below(3) == 0 {
+        return any;
+    }
+    let longer = |best, face| {
+        if ring(shape, face).len() > ring(shape, best).len() {
+            face
+        } else {
+            best
+        }
+    };
+    (0..shape.size.faces).fold(any, longer)
+}
+
+/// A point between three corners of a face, or the middle of all.
+fn on_face(shape: &Shape, face: usize, n: &mut Numbers) -> Vec3 {
+    let ring = ring(shape, face);
+    let corner = |e| vertex(shape, shape.get(e, Link::Origin));
+    if n.below(2) == 0 {
+        let sum = ring.iter().map(|&e| corner(e)).reduce(add);
+        return mul_sv(1.0 / ring.len() as f32, sum.unwrap_or(VEC3_ZERO));
+    }
+    let mut corner = || corner(ring[n.below(ring.len())]);
+    let (a, b, c) = (corner(), corner(), corner());
+    let (s, t) = (n.fraction().abs(), n.fraction().abs());
+    lerp(lerp(a, b, s), c, t)
+}
+
+/// The vertex that the turn brings farthest against `up`.
+fn deepest(shape: &Shape, q: Quat, up: Vec3) -> Vec3 {
+    let height = |v| dot(rotate_vector(q, v), up);
+    (0..shape.size.vertices)
+        .map(|number| vertex(shape, number))
+        .reduce(|best, v| if height(v) < height(best) { v } else { best })
+        .expect("a hull has vertices")
+}
+
+/// The turn that carries a unit vector to another.
+fn turning(from: Vec3, to: Vec3) -> Quat {
+    let s = 1.0 + dot(from, to);
+    if s < 1e-4 {
+        return Quat {
+            v: arbitrary_perp(from),
+            s: 0.0,
+        };
+    }
+    let v = cross(from, to);
+    let by = 1.0 / (length_squared(v) + s * s).sqrt();
+    Quat {
+        v: mul_sv(by, v),
+        s: by * s,
+    }
+}
+
+fn spin(axis: Vec3, angle: f32) -> Quat {
+    Quat {
+        v: mul_sv((angle / 2.0).sin(), axis),
+        s: (angle / 2.0).cos(),
+    }
+}
+
+/// `q` after `r`.
+fn after(q: Quat, r: Quat) -> Quat {
+    let across = add(cross(q.v, r.v), mul_sv(q.s, r.v));
+    Quat {
+        v: add(across, mul_sv(r.s, q.v)),
+        s: q.s * r.s - dot(q.v, r.v),
+    }
+}

@@ -1,0 +1,130 @@
+//! The same values in the records of the readings and of the Rust text.
+
+use oracle::math_functions as reading;
+use probes::{Plane, Quat, Transform, Vec3};
+
+pub fn vector(v: Vec3) -> reading::Vec3 {
+    reading::Vec3 {
+        x: v.x,
+        y: v.y,
+        z: v.z,
+    }
+}
+
+pub fn ours(v: reading::Vec3) -> Vec3 {
+    Vec3 {
+        x: v.x,
+        y: v.y,
+        z: v.z,
+    }
+}
+
+pub fn plane(p: Plane) -> reading::Plane {
+    reading::Plane {
+        normal: vector(p.normal),
+        offset: p.offset,
+    }
+}
+
+pub fn rotation(q: Quat) -> reading::Quat {
+    reading::Quat {
+        v: vector(q.v),
+        s: q.s,
+    }
+}
+
+pub fn transform(t: Transform) -> reading::Transform {
+    reading::Transform {
+        p: vector(t.p),
+        q: rotation(t.q),
+    }
+}
+
+pub fn our_transform(t: reading::Transform) -> Transform {
+    Transform {
+        p: ours(t.p),
+        q: Quat {
+            v: ours(t.q.v),
+            s: t.q.s,
+        },
+    }
+}
+
+#[cfg(rust_text)]
+pub use text::*;
+
+#[cfg(rust_text)]
+mod text {
+    use super::{ours, vector};
+    use crate::shapes::Shape;
+    use oracle::hull::HullData;
+    use oracle::open;
+    use probes::{ClipVertex, FeaturePair};
+
+    fn pair(p: FeaturePair) -> open::FeaturePair {
+        open::FeaturePair {
+            owner1: p.owner1,
+            index1: p.index1,
+            owner2: p.owner2,
+            index2: p.index2,
+        }
+    }
+
+    pub fn corners(list: &[ClipVertex]) -> Vec<open::ClipVertex> {
+        list.iter()
+            .map(|v| open::ClipVertex {
+                position: vector(v.position),
+                separation: v.separation,
+                pair: pair(v.pair),
+            })
+            .collect()
+    }
+
+    pub fn our_corner(v: &open::ClipVertex) -> ClipVertex {
+        ClipVertex {
+            position: ours(v.position),
+            separation: v.separation,
+            pair: our_pair(v.pair),
+        }
+    }
+
+    /// A point as the candidate that it was.
+    pub fn our_point(v: &open::LocalManifoldPoint) -> ClipVertex {
+        ClipVertex {
+            position: ours(v.point),
+            separation: v.separation,
+            pair: our_pair(v.pair),
+        }
+    }
+
+    fn our_pair(p: open::FeaturePair) -> FeaturePair {
+        FeaturePair {
+            owner1: p.owner1,
+            index1: p.index1,
+            owner2: p.owner2,
+            index2: p.index2,
+        }
+    }
+
+    pub fn points(list: &[ClipVertex]) -> Vec<open::LocalManifoldPoint> {
+        list.iter()
+            .map(|v| open::LocalManifoldPoint {
+                point: vector(v.position),
+                separation: v.separation,
+                pair: pair(v.pair),
+                triangle_index: 0,
+            })
+            .collect()
+    }
+
+    pub fn hull(shape: &Shape) -> HullData {
+        let size = shape.size;
+        oracle::hull(
+            &shape.numbers,
+            &shape.links,
+            size.vertices,
+            size.half_edges,
+            size.faces,
+        )
+    }
+}
