@@ -150,9 +150,9 @@ impl Polygon {
 /// A lent hull that the library has accepted. Judged once, it serves any number of calls.
 #[derive(Debug, Clone, Copy)]
 pub struct Accepted<'a> {
-    numbers: &'a [f32],
-    links: &'a [u8],
-    size: HullSize,
+    pub(super) numbers: &'a [f32],
+    pub(super) links: &'a [u8],
+    pub(super) size: HullSize,
 }
 
 impl<'a> Accepted<'a> {

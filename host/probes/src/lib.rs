@@ -2,8 +2,10 @@
 //! Each record has the fields of its Rattle original in their order; where a function there requires something, it is
 //! tested here.
 
+mod axes;
 mod contacts;
 
+pub use axes::*;
 pub use contacts::*;
 
 /// Three numbers.

@@ -1,8 +1,12 @@
-//! What the runs share: numbers from a seed, vectors, transforms and hulls of every sort, the comparison of two floats,
-//! and the count of what was compared.
+//! What the runs share: numbers from a seed, vectors, transforms and hulls of every sort, pairs of them, the
+//! comparison of two floats, and the count of what was compared and met.
 
 pub mod convert;
 pub mod inputs;
+pub mod pairs;
+#[cfg(rust_text)]
+pub mod searches;
+pub mod settled;
 pub mod shapes;
 
 /// Numbers that depend on the seed alone (SplitMix64).
@@ -94,6 +98,9 @@ pub const SPECIAL: [f32; 22] = [
     100000.0,
 ];
 
+/// Document 01's speculative distance.
+pub const SPECULATIVE: f32 = f32::from_bits(0x3ca3_d70a);
+
 /// Equal bit for bit, any NaN being equal to any other.
 pub fn same(a: f32, b: f32) -> bool {
     a.to_bits() == b.to_bits() || (a.is_nan() && b.is_nan())
@@ -129,6 +136,25 @@ impl Tally {
         );
         self.compared > 0 && self.different == 0
     }
+}
+
+/// One in so many, and at least one.
+pub fn one_in(of: usize, count: usize) -> u64 {
+    (count / of).max(1) as u64
+}
+
+/// One line: how often each case was met. Whether each was met often enough.
+pub fn met(cases: &[(&str, u64, u64)]) -> bool {
+    let list: Vec<String> = cases
+        .iter()
+        .map(|(name, count, _)| format!("{name} {count}"))
+        .collect();
+    println!("  met: {}", list.join(", "));
+    let few = cases.iter().filter(|(_, count, least)| count < least);
+    few.fold(true, |_, (name, _, least)| {
+        eprintln!("too seldom: '{name}' was met fewer than {least} times");
+        false
+    })
 }
 
 /// The argument at this place as a number, or the default; a word that is none ends the program.

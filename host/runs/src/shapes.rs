@@ -34,6 +34,8 @@ pub enum Padding<'a> {
     First,
     Last,
     Zeros,
+    /// One point in every lane.
+    Point([f32; 3]),
     /// Any numbers within the limit of coordinates.
     Any(&'a mut Numbers),
 }
@@ -138,6 +140,7 @@ impl Shape {
                     Padding::First => self.numbers[self.coordinate(axis, 0)],
                     Padding::Last => self.numbers[self.coordinate(axis, vertices - 1)],
                     Padding::Zeros => 0.0,
+                    Padding::Point(point) => point[axis],
                     Padding::Any(n) => n.fraction() * 4096.0,
                 };
             }
@@ -228,19 +231,19 @@ fn plane(corners: impl Iterator<Item = [f32; 3]>) -> [f32; 4] {
     [normal[0], normal[1], normal[2], offset]
 }
 
-fn add(a: [f64; 3], b: [f64; 3]) -> [f64; 3] {
+pub(crate) fn add(a: [f64; 3], b: [f64; 3]) -> [f64; 3] {
     [a[0] + b[0], a[1] + b[1], a[2] + b[2]]
 }
 
-fn sub(a: [f64; 3], b: [f64; 3]) -> [f64; 3] {
+pub(crate) fn sub(a: [f64; 3], b: [f64; 3]) -> [f64; 3] {
     add(a, b.map(|x| -x))
 }
 
-fn dot(a: [f64; 3], b: [f64; 3]) -> f64 {
+pub(crate) fn dot(a: [f64; 3], b: [f64; 3]) -> f64 {
     a[0] * b[0] + a[1] * b[1] + a[2] * b[2]
 }
 
-fn cross(a: [f64; 3], b: [f64; 3]) -> [f64; 3] {
+pub(crate) fn cross(a: [f64; 3], b: [f64; 3]) -> [f64; 3] {
     [
         a[1] * b[2] - a[2] * b[1],
         a[2] * b[0] - a[0] * b[2],

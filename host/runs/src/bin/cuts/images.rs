@@ -5,10 +5,7 @@ use super::hold::polygon_is;
 use super::lists;
 use oracle::math_functions::{min_float, mul_sub};
 use probes::ClipVertex;
-use runs::{convert, same, Numbers, Tally};
-
-/// Document 01's speculative distance.
-pub const SPECULATIVE: f32 = f32::from_bits(0x3ca3_d70a);
+use runs::{convert, same, Numbers, Tally, SPECULATIVE};
 
 pub fn images(n: &mut Numbers, count: usize) -> Tally {
     let mut t = Tally::default();

@@ -1,10 +1,9 @@
 //! Lists of candidates for the picks, each candidate with its own place in the list as its first owner.
 
-use super::images::SPECULATIVE;
 use probes::{ClipVertex, FeaturePair, Polygon, Vec3};
 use runs::inputs::{rounded, vector};
 use runs::shapes::solids::frame;
-use runs::Numbers;
+use runs::{Numbers, SPECULATIVE};
 use std::f64::consts::TAU;
 
 /// A normal and 0 to 64 candidates, most of them about a plane across it.

@@ -1,8 +1,6 @@
 //! The candidates of a face contact beside the cuts of the text's `build_face_a_contact`, and from the candidates to
 //! the points beside the text's whole call.
 
-use super::pairs::{self, accepted, Pair};
-use super::{met, one_in};
 use crate::hold::{contact_is, polygon_is};
 use crate::picks;
 use oracle::hull::HullData;
@@ -11,7 +9,8 @@ use oracle::open::{collide_hulls, search, LocalManifold, SatCache, SeparatingFea
 use oracle::quiet;
 use oracle::transcribed::FaceCuts;
 use probes::{ClipVertex, Clipped, MAX_CLIP_POINTS, MAX_MANIFOLD_POINTS};
-use runs::{convert, inputs, same, Numbers, Tally};
+use runs::pairs::{self, accepted, Pair};
+use runs::{convert, inputs, met, one_in, same, Numbers, Tally};
 
 /// Both hulls in both records.
 struct Both {

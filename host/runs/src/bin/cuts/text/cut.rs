@@ -1,12 +1,11 @@
 //! `clip_polygon` beside the text's.
 
 use super::polygons::{any_plane, cutting, tagged, SORTS};
-use super::{met, one_in};
 use crate::hold::polygon_is;
 use oracle::math_functions::{plane_separation, Plane};
 use oracle::open;
 use probes::{ClipVertex, Vec3, MAX_CLIP_POINTS};
-use runs::{convert, Numbers, Tally};
+use runs::{convert, met, one_in, Numbers, Tally};
 
 #[derive(Default)]
 struct Met {

@@ -1,16 +1,15 @@
 //! `find_incident_face` and `build_polygon` beside the text's, on good hulls of every sort.
 
-use super::pairs::{accepted, long_rings, normal, ring, vertex};
 use super::polygons::{any_plane, direction};
-use super::{met, one_in};
 use crate::hold::polygon_is;
 use oracle::hull::HullData;
 use oracle::math_functions::*;
 use oracle::{open, quiet};
 use probes::ClipVertex;
+use runs::pairs::{accepted, long_rings, normal, ring, vertex};
 use runs::shapes::kinds::{Kind, COMPACT, STRETCHED};
 use runs::shapes::{Link, Shape};
-use runs::{convert, inputs, Numbers, Tally};
+use runs::{convert, inputs, met, one_in, Numbers, Tally};
 
 /// Normals for each vertex.
 const NORMALS: usize = 12;

@@ -1,12 +1,11 @@
 //! The picks beside the text's `reduce_manifold_points`.
 
-use super::{met, one_in};
 use crate::hold::contact_is;
 use crate::lists;
 use crate::picks::contact;
 use oracle::open;
 use probes::ClipVertex;
-use runs::{convert, Numbers, Tally};
+use runs::{convert, met, one_in, Numbers, Tally};
 
 pub fn run(n: &mut Numbers, count: usize) -> bool {
     let mut t = Tally::default();

@@ -1,13 +1,14 @@
 //! Pairs of hulls about each other's surfaces.
 
+use crate::shapes::kinds::COMPACT;
+use crate::shapes::solids::{block, pyramid, two_sided, Solid};
+use crate::shapes::{Link, Shape};
+use crate::{convert, inputs, Numbers};
 use oracle::math_functions::*;
 use probes::Accepted;
-use runs::shapes::kinds::COMPACT;
-use runs::shapes::solids::{block, pyramid, two_sided, Solid};
-use runs::shapes::{Link, Shape};
-use runs::{convert, inputs, Numbers};
 use std::f32::consts::TAU;
 
+#[derive(Debug)]
 pub struct Pair {
     pub a: Shape,
     pub b: Shape,
@@ -59,7 +60,7 @@ fn solid(n: &mut Numbers) -> Solid {
     }
 }
 
-/// A face laid on a face, straight or a little tilted; a corner set on a face; boxes side by side; or anyhow.
+/// Any two that are at most 30 from the origin, placed.
 pub fn any(n: &mut Numbers) -> Pair {
     let mut solid = || {
         let solid = solid(n);
@@ -71,6 +72,11 @@ pub fn any(n: &mut Numbers) -> Pair {
         Shape::any(&solid, n)
     };
     let (a, b) = (solid(), solid());
+    placed(a, b, n)
+}
+
+/// A face laid on a face, straight or a little tilted; a corner set on a face; boxes side by side; or anyhow.
+pub fn placed(a: Shape, b: Shape, n: &mut Numbers) -> Pair {
     let (face, other) = (any_face(&a, n), any_face(&b, n));
     let (up, down) = (normal(&a, face), neg(normal(&b, other)));
     let gap = [0.0, -0.001, n.fraction() * 0.03, n.fraction() * 0.1][n.below(4)];
@@ -140,7 +146,7 @@ fn deepest(shape: &Shape, q: Quat, up: Vec3) -> Vec3 {
 }
 
 /// The turn that carries a unit vector to another.
-fn turning(from: Vec3, to: Vec3) -> Quat {
+pub fn turning(from: Vec3, to: Vec3) -> Quat {
     let s = 1.0 + dot(from, to);
     if s < 1e-4 {
         return Quat {
@@ -156,7 +162,7 @@ fn turning(from: Vec3, to: Vec3) -> Quat {
     }
 }
 
-fn spin(axis: Vec3, angle: f32) -> Quat {
+pub fn spin(axis: Vec3, angle: f32) -> Quat {
     Quat {
         v: mul_sv((angle / 2.0).sin(), axis),
         s: (angle / 2.0).cos(),
@@ -164,7 +170,7 @@ fn spin(axis: Vec3, angle: f32) -> Quat {
 }
 
 /// `q` after `r`.
-fn after(q: Quat, r: Quat) -> Quat {
+pub fn after(q: Quat, r: Quat) -> Quat {
     let across = add(cross(q.v, r.v), mul_sv(q.s, r.v));
     Quat {
         v: add(across, mul_sv(r.s, q.v)),

@@ -1,0 +1,269 @@
+// The axis search of separating_axis.rs and its answer: the faces of A, the faces of B, then the pairs of edges.
+ghost use mathlib.Core.Path.{_≡_};
+ghost use Rattle.rotation.specs.Rotation.{matrixOf};
+ghost use Rattle.hull.specs.Accepted.{Accepted, Placed};
+ghost use Rattle.axis.specs.Search.{axisOf, apartOf, edgeOf, winnerOf, missingOf, foundOf, sideOfA, sideOfB, pairsOf, searchOf};
+use leads::Lead;
+use links::HullSize;
+use vector::Transform;
+use vector::Vec3;
+
+// Which face the caller needs: of the side that wins, as the full search does, of A, of B, or none.
+pub enum Wanted {
+    Winner,
+    FaceA,
+    FaceB,
+    Neither,
+}
+
+// An axis in A's frame, from A to B: how far apart the hulls are along it, and the numbers of what it joins.
+#[repr(C)]
+pub struct Axis {
+    pub normal: Vec3,
+    pub separation: f32,
+    pub index_a: u8,
+    pub index_b: u8,
+}
+
+// The hulls are apart: the kind is that of the cache, 2 along a face of A, 3 along a face of B, 4 along a pair of edges.
+pub struct Apart {
+    pub kind: u8,
+    pub separation: f32,
+    pub index_a: u8,
+    pub index_b: u8,
+}
+
+// The best pair of edges, where there is one.
+pub enum EdgeAxis {
+    Pair(Axis),
+    None,
+}
+
+pub struct Found {
+    pub face_a: Axis,
+    pub face_b: Axis,
+    pub edge: EdgeAxis,
+}
+
+pub enum Search {
+    Apart(Apart),
+    Found(Found),
+    NoFace,
+}
+
+fn axis_of(lead: Lead) -> Axis
+    ensures { λ r. ⌜ r ≡ axisOf lead ⌝ }
+{
+    let normal = lead.normal;
+    Axis {
+        normal,
+        separation: lead.separation,
+        index_a: lead.index_a,
+        index_b: lead.index_b,
+    }
+}
+
+fn edge_axis(lead: Lead) -> EdgeAxis
+    ensures { λ r. ⌜ r ≡ edgeOf lead ⌝ }
+{
+    if lead.found {
+        return EdgeAxis::Pair(axis_of(lead));
+    }
+    EdgeAxis::None
+}
+
+fn apart_along(kind: u8, lead: Lead) -> Search
+    ensures { λ r. ⌜ r ≡ apartOf kind lead ⌝ }
+{
+    Search::Apart(Apart {
+        kind,
+        separation: lead.separation,
+        index_a: lead.index_a,
+        index_b: lead.index_b,
+    })
+}
+
+// Face A wins only if strictly above face B.
+fn winner(a: Lead, b: Lead) -> Lead
+    ensures { λ r. ⌜ r ≡ winnerOf a b ⌝ }
+{
+    if a.separation > b.separation {
+        return a;
+    }
+    b
+}
+
+// Whether the wanted side has no face.
+fn missing(wanted: Wanted, a: Lead, b: Lead) -> bool
+    ensures { λ r. ⌜ r ≡ missingOf wanted a b ⌝ }
+{
+    match wanted {
+        Wanted::Winner => {
+            let best = winner(a, b);
+            !best.found
+        }
+        Wanted::FaceA => !a.found,
+        Wanted::FaceB => !b.found,
+        Wanted::Neither => false,
+    }
+}
+
+fn found_for(wanted: Wanted, a: Lead, b: Lead, edge: Lead) -> Search
+    ensures { λ r. ⌜ r ≡ foundOf wanted a b edge ⌝ }
+{
+    if missing(wanted, a, b) {
+        return Search::NoFace;
+    }
+    let face_a = axis_of(a);
+    let face_b = axis_of(b);
+    let edge = edge_axis(edge);
+    Search::Found(Found {
+        face_a,
+        face_b,
+        edge,
+    })
+}
+
+// A's faces against B's vertices.
+fn side_a(
+    early: bool,
+    numbers_a: &[f32],
+    links_a: &[u8],
+    size_a: HullSize,
+    numbers_b: &[f32],
+    links_b: &[u8],
+    size_b: HullSize,
+    transform: Transform,
+    r: [[f32; 3]; 3],
+) -> Lead
+    requires { ⌜ Accepted «size_a» (now «numbers_a») (now «links_a») × Accepted «size_b» (now «numbers_b») (now «links_b») × Placed transform × (r ≡ matrixOf (transform .q)) ⌝ }
+    ensures { λ x. ⌜ x ≡ sideOfA early «size_a» (now («numbers_a» .entry)) «size_b» (now («numbers_b» .entry)) transform ⌝ }
+{
+    let inverse = rotation::transpose(r);
+    faces::search_faces(
+        early,
+        true,
+        inverse,
+        transform.p,
+        numbers_a,
+        size_a,
+        numbers_b,
+        size_b,
+    )
+}
+
+// B's faces against A's vertices.
+fn side_b(
+    early: bool,
+    numbers_a: &[f32],
+    links_a: &[u8],
+    size_a: HullSize,
+    numbers_b: &[f32],
+    links_b: &[u8],
+    size_b: HullSize,
+    transform: Transform,
+    r: [[f32; 3]; 3],
+) -> Lead
+    requires { ⌜ Accepted «size_a» (now «numbers_a») (now «links_a») × Accepted «size_b» (now «numbers_b») (now «links_b») × Placed transform × (r ≡ matrixOf (transform .q)) ⌝ }
+    ensures { λ x. ⌜ x ≡ sideOfB early «size_a» (now («numbers_a» .entry)) «size_b» (now («numbers_b» .entry)) transform ⌝ }
+{
+    faces::search_faces(
+        early,
+        false,
+        r,
+        transform.p,
+        numbers_b,
+        size_b,
+        numbers_a,
+        size_a,
+    )
+}
+
+// A's edges against B's.
+fn edge_pairs(
+    early: bool,
+    numbers_a: &[f32],
+    links_a: &[u8],
+    size_a: HullSize,
+    numbers_b: &[f32],
+    links_b: &[u8],
+    size_b: HullSize,
+    r: [[f32; 3]; 3],
+    transform: Transform,
+) -> Lead
+    requires { ⌜ Accepted «size_a» (now «numbers_a») (now «links_a») × Accepted «size_b» (now «numbers_b») (now «links_b») × (r ≡ matrixOf (transform .q)) ⌝ }
+    ensures { λ x. ⌜ x ≡ pairsOf early «size_a» (now («numbers_a» .entry)) (now («links_a» .entry)) «size_b» (now («numbers_b» .entry)) (now («links_b» .entry)) transform ⌝ }
+{
+    crossings::search_edges(
+        early,
+        numbers_a,
+        links_a,
+        size_a,
+        numbers_b,
+        links_b,
+        size_b,
+        r,
+        transform.p,
+    )
+}
+
+// The hulls are A and, placed in A's frame by the transform, B. With `early`, the search stops at the first new best that is strictly above the speculative distance.
+pub fn compute_separating_axis(
+    numbers_a: &[f32],
+    links_a: &[u8],
+    size_a: HullSize,
+    numbers_b: &[f32],
+    links_b: &[u8],
+    size_b: HullSize,
+    transform: Transform,
+    early: bool,
+    wanted: Wanted,
+) -> Search
+    requires { ⌜ Accepted «size_a» (now «numbers_a») (now «links_a») × Accepted «size_b» (now «numbers_b») (now «links_b») × Placed transform ⌝ }
+    ensures { λ r. ⌜ r ≡ searchOf «size_a» (now («numbers_a» .entry)) (now («links_a» .entry)) «size_b» (now («numbers_b» .entry)) (now («links_b» .entry)) transform early wanted ⌝ }
+{
+    let r = rotation::make_matrix_from_quat(transform.q);
+    let a = side_a(
+        early,
+        numbers_a,
+        links_a,
+        size_a,
+        numbers_b,
+        links_b,
+        size_b,
+        transform,
+        r,
+    );
+    if a.apart {
+        return apart_along(2, a);
+    }
+    let b = side_b(
+        early,
+        numbers_a,
+        links_a,
+        size_a,
+        numbers_b,
+        links_b,
+        size_b,
+        transform,
+        r,
+    );
+    if b.apart {
+        return apart_along(3, b);
+    }
+    let edge = edge_pairs(
+        early,
+        numbers_a,
+        links_a,
+        size_a,
+        numbers_b,
+        links_b,
+        size_b,
+        r,
+        transform,
+    );
+    if edge.apart {
+        return apart_along(4, edge);
+    }
+    found_for(wanted, a, b, edge)
+}

@@ -1,0 +1,4 @@
+pub mod Bounded
+pub mod Lanes
+pub mod Facing
+pub mod Found

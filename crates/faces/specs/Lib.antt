@@ -1,0 +1,3 @@
+pub mod Support
+pub mod Faces
+pub mod Ready

@@ -1,0 +1,6 @@
+pub mod Reach
+pub mod Passing
+pub mod Sifting
+pub mod Products
+pub mod Passed
+pub mod Rows

@@ -1,0 +1,18 @@
+-- What the code reads is in reach: a number that the links store lies below 128, and a place in a row below the row's end. Assumes nothing.
+use Prim.Native.Nat.{ℕ, _+_, _<_, _≤_}
+use mathlib.Core.Path.{_≡_}
+use mathlib.Core.List.{List}
+use native.Mathlib.Omega.{arith}
+use Rattle.links.specs.declared.HullSize.{HullSize}
+use Rattle.links.specs.Links.{origin, face}
+use Rattle.edges.specs.Ready.{EdgesIn}
+
+module _ (s : HullSize) (l : List ℕ) (ok : EdgesIn s l) (e : ℕ) (h : e < s .«half_edges») (r : ℕ) where
+  pub face-low : r ≡ face s l e → r < 128
+  face-low q = omega (arith, q, ok .face-in e h, ok .fit .f-high)
+
+  pub origin-low : r ≡ origin s l e → r < 128
+  origin-low q = omega (arith, q, ok .origin-in e h, ok .fit .v-high)
+
+pub in-row : (p n i room : ℕ) → i < n → p + n ≤ room → p + i < room
+in-row p n i room h k = omega arith

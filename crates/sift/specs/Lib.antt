@@ -1,0 +1,2 @@
+pub mod Sift
+pub mod Rows

@@ -1,0 +1,36 @@
+-- The numbers of A's edges that pass the tests of signs against one edge of B, in their order. Definitions only.
+use Prim.Native.Nat.{ℕ, zero, suc, _+_, _*_}
+use mathlib.Core.Bool.{Bool, cond, _||_}
+use mathlib.Core.List.{List, [], _∷_, _++_}
+use lib.ListN.{getD}
+use lib.Ieee as Ieee
+use lib.Ieee.{Float, nan}
+use Rattle.vector.specs.Rounded.{_⊗_}
+use Rattle.links.specs.declared.HullSize.{HullSize}
+use Rattle.links.specs.Links.{face}
+use Rattle.edges.specs.Edges.{eps}
+
+-- a product at or above -0.0001
+unfoldable pub atLeastEps : Float → Bool
+atLeastEps x = Ieee.le eps x
+
+-- edge i fails the first test: cba * dba, which stand in the table from p and from q on
+unfoldable pub failsFirst : List Float → ℕ → ℕ → ℕ → Bool
+failsFirst table p q i = atLeastEps (getD table (p + i) nan ⊗ getD table (q + i) nan)
+
+-- edge i fails one of the other two: adc * bdc, cba * bdc. adc and bdc stand by A's faces
+unfoldable pub failsLater : List Float → ℕ → List Float → HullSize → List ℕ → ℕ → Bool
+failsLater table p along s l i =
+    let adc = getD along (face s l (2 * i)) nan in
+    let bdc = getD along (face s l (2 * i + 1)) nan in
+    atLeastEps (adc ⊗ bdc) || atLeastEps (getD table (p + i) nan ⊗ bdc)
+
+-- the numbers of a list that do not fail, in their order
+unfoldable pub passing : (ℕ → Bool) → List ℕ → List ℕ
+passing fails [] = []
+passing fails (i ∷ is) = cond (fails i) (passing fails is) (i ∷ passing fails is)
+
+-- 0 to n - 1
+unfoldable pub upTo : ℕ → List ℕ
+upTo zero = []
+upTo (suc n) = upTo n ++ (n ∷ [])

@@ -1,0 +1,113 @@
+//! The axis search.
+
+use super::{transform_accepted, Accepted, HullSize, Transform, Vec3};
+
+/// One axis: its normal in A's frame from A to B, the separation along it, and the numbers of what it joins. For face A
+/// these are the face and B's support vertex, for face B A's support vertex and the face, for an edge pair two
+/// half-edges.
+#[derive(Debug, Clone, Copy)]
+#[repr(C)]
+pub struct Axis {
+    pub normal: Vec3,
+    pub separation: f32,
+    pub index_a: u8,
+    pub index_b: u8,
+}
+
+/// The answer of the search; what a case does not have is zero.
+#[derive(Debug, Clone, Copy)]
+#[repr(C)]
+pub struct Searched {
+    /// `APART`, `FOUND` or `NO_FACE`.
+    pub case: u8,
+    /// Where apart: 2 along a face of A, 3 along a face of B, 4 along a pair of edges.
+    pub kind: u8,
+    /// Where found: whether there is an edge pair.
+    pub pair: bool,
+    /// Where apart: the axis's separation and numbers.
+    pub separation: f32,
+    pub index_a: u8,
+    pub index_b: u8,
+    /// Where found.
+    pub face_a: Axis,
+    pub face_b: Axis,
+    /// Where there is an edge pair.
+    pub edge: Axis,
+}
+
+/// The cases of an answer: an axis apart, both faces, or no face of the wanted side.
+pub const APART: u8 = 0;
+pub const FOUND: u8 = 1;
+pub const NO_FACE: u8 = 2;
+
+/// The side whose face is wanted; any other number wants the side that wins, which is A only if its separation is
+/// strictly above B's.
+pub const WANT_FACE_A: u8 = 6;
+pub const WANT_FACE_B: u8 = 7;
+pub const WANT_NO_FACE: u8 = 8;
+
+mod linked {
+    use super::*;
+
+    extern "C" {
+        pub fn probe_compute_separating_axis(
+            numbers_a: *const f32,
+            numbers_a_len: usize,
+            links_a: *const u8,
+            links_a_len: usize,
+            size_a: HullSize,
+            numbers_b: *const f32,
+            numbers_b_len: usize,
+            links_b: *const u8,
+            links_b_len: usize,
+            size_b: HullSize,
+            transform: Transform,
+            early: bool,
+            wanted: u8,
+        ) -> Searched;
+    }
+}
+
+/// A transform that the library has accepted. Judged once, it serves any number of calls.
+#[derive(Debug, Clone, Copy)]
+pub struct Placed(Transform);
+
+impl Placed {
+    /// Panics where the transform breaks its rule.
+    pub fn new(transform: Transform) -> Self {
+        assert!(
+            transform_accepted(transform),
+            "the transform is not an accepted one: {transform:?}"
+        );
+        Placed(transform)
+    }
+}
+
+/// The search of an axis between two hulls, B placed in A's frame. With `early` it stops at the first new best strictly
+/// above the speculative distance.
+#[inline]
+pub fn compute_separating_axis(
+    a: Accepted,
+    b: Accepted,
+    placed: Placed,
+    early: bool,
+    wanted: u8,
+) -> Searched {
+    unsafe {
+        linked::probe_compute_separating_axis(
+            a.numbers.as_ptr(),
+            a.numbers.len(),
+            a.links.as_ptr(),
+            a.links.len(),
+            a.size,
+            b.numbers.as_ptr(),
+            b.numbers.len(),
+            b.links.as_ptr(),
+            b.links.len(),
+            b.size,
+            placed.0,
+            early,
+            wanted,
+        )
+    }
+}

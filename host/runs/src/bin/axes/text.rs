@@ -1,0 +1,116 @@
+//! What is held to the Rust text itself.
+
+use oracle::math_functions::Transform;
+use oracle::open::{search, AxisQuery, SeparatingFeature};
+use probes::{Placed, WANT_FACE_A, WANT_FACE_B, WANT_NO_FACE};
+use runs::pairs::{accepted, Pair};
+use runs::searches::{answer, same_answers};
+use runs::{convert, met, one_in, Numbers, Tally};
+use sorts::SORTS;
+
+mod edits;
+mod places;
+mod sorts;
+
+#[derive(Default)]
+struct Met {
+    apart_a: u64,
+    apart_b: u64,
+    apart_edges: u64,
+    with_pair: u64,
+    without_pair: u64,
+    padding: u64,
+    a_wins: u64,
+    b_wins: u64,
+    tie: u64,
+    edge_above: u64,
+}
+
+pub fn run(n: &mut Numbers, count: usize) -> bool {
+    let mut good = true;
+    let mut m = Met::default();
+    for (name, make) in SORTS {
+        let mut t = Tally::default();
+        for _ in 0..count {
+            searches(&mut t, &mut m, &acceptable(make, n), n);
+        }
+        good &= t.report(&format!("axis searches, {name}"));
+    }
+    let (often, least) = (one_in(5, count), one_in(20, count));
+    good & met(&[
+        ("apart along a face of A", m.apart_a, often),
+        ("along a face of B", m.apart_b, often),
+        ("along an edge pair", m.apart_edges, often),
+        ("found with an edge pair", m.with_pair, often),
+        ("without", m.without_pair, often),
+        ("a padding lane won", m.padding, least),
+        ("face A above face B", m.a_wins, often),
+        ("face B above face A", m.b_wins, often),
+        ("a tie of the two", m.tie, least),
+        ("an edge pair above both", m.edge_above, often),
+    ])
+}
+
+/// Made anew until the transform is an accepted one.
+fn acceptable(make: fn(&mut Numbers) -> Pair, n: &mut Numbers) -> Pair {
+    loop {
+        let pair = make(n);
+        let Transform { p, q } = pair.transform;
+        if validator::transform_accepted([p.x, p.y, p.z], [q.v.x, q.v.y, q.v.z, q.s]) {
+            return pair;
+        }
+    }
+}
+
+/// One pair of hulls, with the early stop and without.
+fn searches(t: &mut Tally, m: &mut Met, pair: &Pair, n: &mut Numbers) {
+    let (a, b) = (convert::hull(&pair.a), convert::hull(&pair.b));
+    let (lent_a, lent_b) = (accepted(&pair.a), accepted(&pair.b));
+    let placed = Placed::new(convert::our_transform(pair.transform));
+    for early in [true, false] {
+        let wanted = match n.below(5) {
+            0 => WANT_FACE_A,
+            1 => WANT_FACE_B,
+            2 => WANT_NO_FACE,
+            3 => 0,
+            _ => n.below(256) as u8,
+        };
+        let query = search(&a, &b, pair.transform, early);
+        let theirs = answer(&query, wanted);
+        let ours = probes::compute_separating_axis(lent_a, lent_b, placed, early, wanted);
+        t.compare(same_answers(&ours, &theirs), || {
+            format!("early {early}, wanted {wanted}: {ours:?}, {theirs:?}: {pair:?}")
+        });
+        m.add(pair, &query);
+    }
+}
+
+impl Met {
+    fn add(&mut self, pair: &Pair, query: &AxisQuery) {
+        match query.separated_feature {
+            SeparatingFeature::FaceAxisA => self.apart_a += 1,
+            SeparatingFeature::FaceAxisB => self.apart_b += 1,
+            SeparatingFeature::EdgePairAxis => self.apart_edges += 1,
+            _ => self.add_found(pair, query),
+        }
+    }
+
+    fn add_found(&mut self, pair: &Pair, query: &AxisQuery) {
+        let AxisQuery {
+            face_a,
+            face_b,
+            edge,
+            ..
+        } = query;
+        let (a, b) = (face_a.separation, face_b.separation);
+        let padding = face_a.index_b as usize >= pair.b.size.vertices
+            || face_b.index_a as usize >= pair.a.size.vertices;
+        self.with_pair += u64::from(edge.index_a >= 0);
+        self.without_pair += u64::from(edge.index_a < 0);
+        self.padding += u64::from(padding);
+        self.a_wins += u64::from(a > b);
+        self.b_wins += u64::from(b > a);
+        self.tie += u64::from(a == b);
+        self.edge_above += u64::from(edge.separation > a.max(b));
+    }
+}
