@@ -4,3 +4,4 @@ pub mod Sifting
 pub mod Products
 pub mod Passed
 pub mod Rows
+pub mod Marking

@@ -1,8 +1,10 @@
 -- The numbers of A's edges that pass the tests of signs against one edge of B, in their order. Definitions only.
-use Prim.Native.Nat.{ℕ, zero, suc, _+_, _*_}
+use Prim.Native.Nat.{ℕ, zero, suc, _+_, _*_, _<_}
 use mathlib.Core.Bool.{Bool, cond, _||_}
 use mathlib.Core.List.{List, [], _∷_, _++_}
-use lib.ListN.{getD}
+use mathlib.Core.Path.{_≡_}
+use lib.Dec.{eqb}
+use lib.ListN.{length, getD}
 use lib.Ieee as Ieee
 use lib.Ieee.{Float, nan}
 use Rattle.vector.specs.Rounded.{_⊗_}
@@ -34,3 +36,13 @@ passing fails (i ∷ is) = cond (fails i) (passing fails is) (i ∷ passing fail
 unfoldable pub upTo : ℕ → List ℕ
 upTo zero = []
 upTo (suc n) = upTo n ++ (n ∷ [])
+
+-- what the first pass leaves: for each number below n, 0 where it fails and 1 where it passes; the count says how many pass
+pub record Marked (fails : ℕ → Bool) (n count : ℕ) (marks : List ℕ) : Type 0 where
+  pub long : length marks ≡ 128
+  pub each : (k : ℕ) → k < n → getD marks k 0 ≡ cond (fails k) 0 1
+  pub counted : count ≡ length (passing fails (upTo n))
+
+-- number k has no mark
+unfoldable pub unmarked : List ℕ → ℕ → Bool
+unmarked marks k = eqb (getD marks k 0) 0

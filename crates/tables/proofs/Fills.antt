@@ -33,3 +33,7 @@ same-fill a h = record { long = a .long; kept = a .kept; made = λ k q. a .made 
 -- coordinate i of normal k stands i places after its first
 pub coordinate : (xs : List Float) (from i k : ℕ) → normalAt xs (from + i) k ≡ getD xs (from + 4 * k + i) nan
 coordinate xs from i k = let place : from + i + 4 * k ≡ from + 4 * k + i = omega arith in ap (λ (j : ℕ). getD xs j nan) place
+
+-- a fill has every shorter one
+pub fewer : {g : ℕ → Float} {at n : ℕ} {was is : List Float} (m : ℕ) → m ≤ n → Filled g at n was is → Filled g at m was is
+fewer m h a = record { long = a .long; kept = a .kept; made = λ k q. a .made k (omega (arith, q, h)) }
