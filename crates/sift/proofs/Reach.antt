@@ -6,13 +6,14 @@ use native.Mathlib.Omega.{arith}
 use Rattle.links.specs.declared.HullSize.{HullSize}
 use Rattle.links.specs.Links.{origin, face}
 use Rattle.edges.specs.Ready.{EdgesIn}
+use Rattle.edges.proofs.Ready.{origin-below, face-below}
 
 module _ (s : HullSize) (l : List ℕ) (ok : EdgesIn s l) (e : ℕ) (h : e < s .«half_edges») (r : ℕ) where
   pub face-low : r ≡ face s l e → r < 128
-  face-low q = omega (arith, q, ok .face-in e h, ok .fit .f-high)
+  face-low q = omega (arith, face-below s l ok e h r q, ok .fit .f-high)
 
   pub origin-low : r ≡ origin s l e → r < 128
-  origin-low q = omega (arith, q, ok .origin-in e h, ok .fit .v-high)
+  origin-low q = omega (arith, origin-below s l ok e h r q, ok .fit .v-high)
 
 pub in-row : (p n i room : ℕ) → i < n → p + n ≤ room → p + i < room
 in-row p n i room h k = omega arith

@@ -62,17 +62,22 @@ fn solid(n: &mut Numbers) -> Solid {
 
 /// Any two that are at most 30 from the origin, placed.
 pub fn any(n: &mut Numbers) -> Pair {
-    let mut solid = || {
+    let mut shape = || {
         let solid = solid(n);
-        let solid = if n.below(2) == 0 {
-            solid
-        } else {
-            solid.turned(n)
-        };
-        Shape::any(&solid, n)
+        turned_or_not(solid, n)
     };
-    let (a, b) = (solid(), solid());
+    let (a, b) = (shape(), shape());
     placed(a, b, n)
+}
+
+/// The solid as it stands or turned, with whatever a record leaves open at random.
+pub fn turned_or_not(solid: Solid, n: &mut Numbers) -> Shape {
+    let solid = if n.below(2) == 0 {
+        solid
+    } else {
+        solid.turned(n)
+    };
+    Shape::any(&solid, n)
 }
 
 /// A face laid on a face, straight or a little tilted; a corner set on a face; boxes side by side; or anyhow.

@@ -7,7 +7,7 @@ use super::places::{
 };
 use oracle::math_functions::{neg, rotate_vector, sub, Quat, Transform, Vec3, VEC3_ZERO};
 use runs::inputs::rounded;
-use runs::pairs::{placed, Pair};
+use runs::pairs::{placed, turned_or_not, Pair};
 use runs::settled::Stack;
 use runs::shapes::kinds::{any_log, COMPACT, STRETCHED};
 use runs::shapes::solids::*;
@@ -75,12 +75,7 @@ fn any_kind(n: &mut Numbers) -> Shape {
         .nth(place)
         .expect("a kind");
     let solid = solid(n);
-    let solid = if n.below(2) == 0 {
-        solid
-    } else {
-        solid.turned(n)
-    };
-    Shape::any(&solid, n)
+    turned_or_not(solid, n)
 }
 
 /// Two of one solid, at whole steps, straight or by quarter turns: faces, sides and edge pairs tie.
