@@ -1,4 +1,4 @@
--- The answer in document 01's numbers: for each case its status, what it leaves in the cache, and the numbers of a manual search. Definitions only.
+-- The answer in document 01's numbers: for each case its status, and what an axis apart leaves in the cache. Definitions only.
 use Prim.Native.Nat.{ℕ}
 use lib.Ieee.{binary32, toBits}
 use Rattle.manifold.specs.declared.SatCache.{SatCache}

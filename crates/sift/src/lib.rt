@@ -78,8 +78,8 @@ fn gather(marks: &[u8], n: usize, list: &mut [u8]) -> usize
     m
 }
 
-// Of the edges 0 to n - 1 of A, those that pass the first test, in their order; the return says how many. Most edges of B have none, so marks come first: they go
-// four at a time.
+// Of the edges 0 to n - 1 of A, those that pass the first test, in their order; the return says how many. Marks come first, since they go four at a time and tell whether
+// there is anything to gather: for every other edge of B of two logs that lie flat there is not.
 fn sift(table: &[f32], p: usize, q: usize, n: usize, list: &mut [u8], marks: &mut [u8]) -> usize
     requires { ⌜ (n ≤ 128) × (p + n ≤ length (now table)) × (q + n ≤ length (now table)) × (length (now list) ≡ 128) × (length (now marks) ≡ 128) ⌝ }
     ensures { λ r. ⌜ (r ≤ n) × (length (now (list .exit)) ≡ 128) × (length (now (marks .exit)) ≡ 128) × (take r (now (list .exit)) ≡ passing (failsFirst (now (table .entry)) p q) (upTo n)) ⌝ }
@@ -176,6 +176,7 @@ pub fn scan_row(
     if m == 0 {
         return start;
     }
+    // In eights, so that no face is done alone. What the places above A's faces then hold is not looked at.
     tables::fill_row(b.direction, normals, (size.faces + 7) / 8 * 8, along, 0);
     let left = sift_again(table, p, n, along, links, size, list, m, out);
     scan_list(
