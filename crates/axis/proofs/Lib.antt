@@ -1,3 +1,4 @@
 pub mod Ready
 pub mod Answers
 pub mod Always
+pub mod Ranges

@@ -2,4 +2,5 @@ pub mod Limits
 pub mod Laws
 pub mod Transforms
 pub mod Answer
+pub mod Support
 pub mod Accepted

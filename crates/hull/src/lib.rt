@@ -5,13 +5,14 @@ pub mod rule8;
 ghost use mathlib.Core.Path.{_≡_};
 ghost use Prim.Native.Nat.{_<_};
 ghost use Rattle.links.specs.Links.{padded, NumbersFit};
-ghost use Rattle.hull.specs.Numbers.{boxOf, vertexAt, planeAt};
+ghost use Rattle.hull.specs.Numbers.{boxOf, vertexAt, planeAt, supportAt};
 ghost use Rattle.hull.specs.Rule8.{brokenRule};
 use crate::rule8::numbers_right;
 use links::HullSize;
 use vector::Aabb;
 use vector::Plane;
 use vector::Vec3;
+use vector::shape::find_hull_support_vertex;
 
 pub fn box_of(numbers: &[f32], size: HullSize) -> Aabb
     requires { ⌜ NumbersFit size (now numbers) ⌝ }
@@ -58,6 +59,23 @@ pub fn plane_at(numbers: &[f32], size: HullSize, f: usize) -> Plane
         },
         offset: numbers[at + 3],
     }
+}
+
+// The lowest-numbered vertex that lies farthest along d; padding is not looked at.
+pub fn support_vertex(numbers: &[f32], size: HullSize, d: Vec3) -> usize
+    requires { ⌜ NumbersFit size (now numbers) ⌝ }
+    ensures { λ r. ⌜ r ≡ supportAt size (now (numbers .entry)) d ⌝ }
+{
+    let p = (size.vertices + 3) / 4 * 4;
+    let y = 6 + p;
+    let z = y + p;
+    find_hull_support_vertex(
+        &numbers[6..y],
+        &numbers[y..z],
+        &numbers[z..z + p],
+        size.vertices,
+        d,
+    )
 }
 
 // The first broken rule, 0 if none, whatever is lent: nothing is taken on the caller's word.

@@ -1,4 +1,5 @@
--- The laws of a search with a stop, for loops that carry its lead: the start, one turn, a stop, turns that change nothing, and steps that are the same. Assumes nothing.
+-- The laws of a search with a stop, for loops that carry its lead: the start, one turn, a stop, turns that change nothing, steps that are the same, and what
+-- every step keeps. Assumes nothing.
 use mathlib.Core.Path.{_≡_, refl, sym, ap, _∙_}
 use mathlib.Core.Bool.{Bool, true, false, cond}
 use mathlib.Core.Logic.{⊎-elim}
@@ -6,6 +7,7 @@ use Prim.Native.Nat.{ℕ, zero, suc, _+_, _-_, _<_, _≤_}
 use native.Mathlib.Numerals.{add-one}
 use native.Mathlib.Nat.{eq-or-lt-of-le, le-of-suc-le-suc}
 use native.Mathlib.Omega.{arith}
+use Rattle.bounds.proofs.Laws.{picked}
 use Rattle.leads.specs.declared.Lead.{Lead}
 use Rattle.leads.specs.Leads.{leadAfter}
 
@@ -53,3 +55,11 @@ same-steps f g start (suc n) h =
     let s : Lead = leadAfter g start n in
     ap (λ (t : Lead). cond (t .apart) t (f n t)) (same-steps f g start n (λ i q. h i (omega (arith, q))))
     ∙ ap (λ (t : Lead). cond (s .apart) s t) (h n (omega arith) s)
+
+-- what holds of the start, and stays so in every step below n, holds of what n steps make
+pub holds : (P : Lead → Type 0) (step : ℕ → Lead → Lead) (start : Lead) (n : ℕ) → P start → ((i : ℕ) → i < n → (s : Lead) → P s → P (step i s)) → P (leadAfter step start n)
+unfolding leadAfter
+holds P step start zero p q = p
+holds P step start (suc n) p q =
+    let before : P (leadAfter step start n) = holds P step start n p (λ i h. q i (omega (arith, h))) in
+    picked P (leadAfter step start n .apart) before (q n (omega arith) (leadAfter step start n) before)

@@ -1,4 +1,5 @@
 -- The records with nothing in them: "Places at or above the count are zero, and so is the normal when the count is 0." Definitions only.
+use Prim.Native.Nat.{ℕ}
 use lib.ListN.{replicate}
 use lib.Ieee.{nan}
 use Rattle.vector.specs.Rounded.{float}
@@ -31,6 +32,10 @@ emptyContact = record { points = replicate 4 zeroPoint; normal = zeroVec; count 
 -- the cache cleared
 abbrev pub emptyCache : SatCache
 emptyCache = record { separation = 0; kind = 0; «index_a» = 0; «index_b» = 0; hit = 0 }
+
+-- the cache as it is but for its hit
+abbrev pub hitSet : ℕ → SatCache → SatCache
+hitSet hit c = record { separation = c .separation; kind = c .kind; «index_a» = c .«index_a»; «index_b» = c .«index_b»; hit = hit }
 
 -- what the logic's `getD` finds past the end of an array of corners, and of points
 abbrev pub pastVertex : ClipVertex

@@ -71,6 +71,7 @@ pub struct Outcome {
 }
 
 // What one call returns, and the next cache.
+#[repr(C)]
 pub struct Answer {
     pub outcome: Outcome,
     pub cache: SatCache,

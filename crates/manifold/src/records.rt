@@ -1,6 +1,6 @@
 // The records with nothing in them.
 ghost use mathlib.Core.Path.{_≡_};
-ghost use Rattle.manifold.specs.Records.{zeroVertex, zeroPoint, emptyPolygon, emptyContact, emptyCache};
+ghost use Rattle.manifold.specs.Records.{zeroVertex, zeroPoint, emptyPolygon, emptyContact, emptyCache, hitSet};
 use crate::ClipVertex;
 use crate::Contact;
 use crate::FeaturePair;
@@ -80,5 +80,18 @@ pub fn empty_cache() -> SatCache
         index_a: 0,
         index_b: 0,
         hit: 0,
+    }
+}
+
+// The cache as it is but for its hit.
+pub fn hit_set(hit: u8, cache: SatCache) -> SatCache
+    ensures { λ r. ⌜ r ≡ hitSet hit cache ⌝ }
+{
+    SatCache {
+        separation: cache.separation,
+        kind: cache.kind,
+        index_a: cache.index_a,
+        index_b: cache.index_b,
+        hit,
     }
 }

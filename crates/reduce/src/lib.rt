@@ -44,7 +44,8 @@ fn point_of(v: ClipVertex) -> Point
     }
 }
 
-fn one_point(v1: ClipVertex, normal: Vec3) -> Contact
+// The contact of one point.
+pub fn one_point(v1: ClipVertex, normal: Vec3) -> Contact
     ensures { λ r. ⌜ r ≡ contactOf normal (v1 ∷ []) ⌝ }
 {
     let zero = zero_point();

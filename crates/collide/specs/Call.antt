@@ -1,0 +1,58 @@
+-- Document 01's section "One call", step by step, and the order of refusals. Definitions only.
+use Prim.Native.Nat.{ℕ}
+use mathlib.Core.Bool.{cond}
+use mathlib.Core.List.{List}
+use lib.Dec.{eqb}
+use lib.IntN.{ℤ, pos}
+use lib.Signed.{ltZ}
+use lib.Ieee.{Float}
+use Rattle.vector.specs.declared.Transform.{Transform}
+use Rattle.manifold.specs.declared.SatCache.{SatCache}
+use Rattle.manifold.specs.declared.Contact.{Contact}
+use Rattle.manifold.specs.declared.Answer.{Answer}
+use Rattle.manifold.specs.Records.{emptyContact, hitSet}
+use Rattle.links.specs.declared.HullSize.{HullSize}
+use Rattle.contacts.specs.declared.Built.{Built}
+use Rattle.cached.specs.declared.Cached.{Cached}
+use Rattle.cached.specs.Again.{cachedFaceAOf, cachedFaceBOf, cachedEdgeOf}
+use Rattle.full.specs.Full.{fullOf}
+use Rattle.full.specs.Manual.{manualFaceAOf, manualFaceBOf, manualEdgeOf}
+use Rattle.collide.specs.Refusals.{refusalOf}
+
+-- accepted, with this contact and this next cache
+abbrev pub accepted : Contact → SatCache → Answer
+accepted contact cache = record { outcome = record { status = 0; contact = contact }; cache = cache }
+
+-- "Refusals 1 to 7 return an empty contact and leave the cache's bits, hit included."
+abbrev pub refusedOf : ℕ → SatCache → Answer
+refusedOf number cache = record { outcome = record { status = number; contact = emptyContact }; cache = cache }
+
+-- what was built, or the refusal that the work met, with the cache as it was lent
+unfoldable pub answerOf : SatCache → Built → Answer
+answerOf cache built = cond (eqb (built .status) 0) (accepted (built .contact) (built .cache)) (refusedOf (built .status) cache)
+
+-- hull A is (s, n, l), hull B is (t, m, k), and x places B in A's frame
+module _ (s : HullSize) (n : List Float) (l : List ℕ) (t : HullSize) (m : List Float) (k : List ℕ) (x : Transform) where
+  -- a cached axis that serves again: hit 1, other cache fields kept; "Else full search."
+  unfoldable pub afterCached : SatCache → Cached → Answer
+  afterCached cache cached =
+      cond (eqb (cached .status) 0)
+      (cond (cached .hit) (accepted (cached .contact) (hitSet 1 cache)) (answerOf cache (fullOf s n l t m k x)))
+      (refusedOf (cached .status) cache)
+
+  -- "Type 2 or 3: .. the cached face. Type 4: .. Types 6, 7, 8: .. Types 1, 5 and 9 to 255 act as type 0: full search."
+  unfoldable pub workedOf : SatCache → Answer
+  workedOf cache =
+      cond (eqb (cache .kind) 2) (afterCached cache (cachedFaceAOf s n l t m k x cache))
+      (cond (eqb (cache .kind) 3) (afterCached cache (cachedFaceBOf s n l t m k x cache))
+      (cond (eqb (cache .kind) 4) (afterCached cache (cachedEdgeOf s n l t m k x cache))
+      (cond (eqb (cache .kind) 6) (answerOf cache (manualFaceAOf s n l t m k x))
+      (cond (eqb (cache .kind) 7) (answerOf cache (manualFaceBOf s n l t m k x))
+      (cond (eqb (cache .kind) 8) (answerOf cache (manualEdgeOf s n l t m k x cache))
+      (answerOf cache (fullOf s n l t m k x)))))))
+
+  -- "capacity below 4 comes first and is accepted, with no points, the cache untouched, nothing else looked at. Then 1, 2, 3, 4, then 7, 5, 6 as the work meets them."
+  unfoldable pub collideOf : ℤ → SatCache → Answer
+  collideOf capacity cache =
+      cond (ltZ capacity (pos 4)) (accepted emptyContact cache)
+      (cond (eqb (refusalOf s n l t m k x cache) 0) (workedOf cache) (refusedOf (refusalOf s n l t m k x cache) cache))

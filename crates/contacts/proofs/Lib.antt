@@ -1,0 +1,3 @@
+pub mod Cases
+pub mod Turned
+pub mod Owners

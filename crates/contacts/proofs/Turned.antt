@@ -1,0 +1,96 @@
+-- A contact carried place by place is the contact of the carried points, and a contact on a face of B is one on a face of A, carried. Assumes nothing.
+use Prim.Native.Nat.{ℕ, _≤_}
+use mathlib.Core.Path.{_≡_, refl, sym, ap, _∙_}
+use mathlib.Core.Bool.{Bool, true, false, cond, false≢true}
+use mathlib.Core.List.{List, [], _∷_, map}
+use native.Mathlib.Omega.{arith}
+use lib.ListN.{length}
+use lib.Dec.{ltb}
+use lib.Ieee.{Float}
+use Rattle.vector.specs.declared.Vec3.{Vec3}
+use Rattle.vector.specs.declared.Transform.{Transform}
+use Rattle.vector.specs.Arithmetic.{negOf}
+use Rattle.vector.specs.Awaited.{arbitraryPerpOf}
+use Rattle.rotation.specs.Rotation.{matrixOf, mulMvOf, invertOf}
+use Rattle.manifold.specs.declared.ClipVertex.{ClipVertex}
+use Rattle.manifold.specs.declared.Contact.{Contact}
+use Rattle.links.specs.declared.HullSize.{HullSize}
+use Rattle.hull.specs.Numbers.{planeAt}
+use Rattle.scores.specs.Images.{imageOf, leastSeparationOf, touchingOf}
+use Rattle.reduce.specs.Reduce.{pointOf, normalOf, contactOf}
+use Rattle.reduce.proofs.Chosen.{chosen}
+use Rattle.clip.specs.Candidates.{candidatesOf}
+use Rattle.contacts.specs.declared.Built.{Built}
+use Rattle.contacts.specs.Builds.{touchedOf, missed, refusedAt}
+use Rattle.contacts.specs.Faces.{pointsFrom, carriedOf, contactOnA, contactOnB, onFace, faceAOf, faceBOf}
+use Rattle.contacts.specs.Carried.{carriedPoint, carriedPlace, carriedContact}
+
+-- ---- four points or fewer, carried
+carried-few : (x : Transform) (normal : Vec3) (l : List ClipVertex) → length l ≤ 4
+    → carriedContact x (contactOf normal l) ≡ contactOf (negOf (mulMvOf (matrixOf (x .q)) normal)) (map (carriedOf x) l)
+unfolding carriedPoint carriedPlace carriedContact carriedOf pointOf normalOf contactOf
+carried-few x normal [] h = refl
+carried-few x normal (a ∷ []) h = refl
+carried-few x normal (a ∷ b ∷ []) h = refl
+carried-few x normal (a ∷ b ∷ c ∷ []) h = refl
+carried-few x normal (a ∷ b ∷ c ∷ d ∷ []) h = refl
+carried-few x normal (a ∷ b ∷ c ∷ d ∷ e ∷ l) h = absurd (omega arith)
+
+pub carried-on-b : (x : Transform) (normal : Vec3) (l : List ClipVertex) → carriedContact x (contactOnA normal l) ≡ contactOnB x normal l
+unfolding pointsFrom contactOnA contactOnB
+carried-on-b x normal l = carried-few x normal (pointsFrom normal l) (chosen (arbitraryPerpOf normal) normal (map (imageOf normal) l) .few)
+
+-- ---- faces of A and of B: the same three tests
+abbrev side : Bool → Bool → Bool → Contact → Float → ℕ → ℕ → ℕ → Built
+side p q w contact separation kind a b = cond p (cond q (refusedAt 6) (cond w (touchedOf contact separation kind a b) missed)) (refusedAt 5)
+
+-- what the code makes of a contact on a face of A
+abbrev swapped : Transform → ℕ → ℕ → Built → Built
+swapped x f v r =
+    record {
+      status = 0;
+      touching = true;
+      contact = carriedContact x (r .contact);
+      cache = record { separation = r .cache .separation; kind = 3; «index_a» = v; «index_b» = f; hit = 0 };
+    }
+
+module _ (x : Transform) (contact : Contact) (separation : Float) (f v : ℕ) where
+  apart-alike : (p q w : Bool) (other : Contact) → side p q w contact separation 2 f v .touching ≡ false
+      → side p q w contact separation 2 f v ≡ side p q w other separation 3 v f
+  unfolding touchedOf
+  apart-alike false q w other h = refl
+  apart-alike true true w other h = refl
+  apart-alike true false true other h = absurd (false≢true (sym h))
+  apart-alike true false false other h = refl
+
+  touching-alike : (p q w : Bool) (other : Contact) → carriedContact x contact ≡ other → side p q w contact separation 2 f v .touching ≡ true
+      → swapped x f v (side p q w contact separation 2 f v) ≡ side p q w other separation 3 v f
+  unfolding touchedOf
+  touching-alike false q w other e h = absurd (false≢true h)
+  touching-alike true true w other e h = absurd (false≢true h)
+  touching-alike true false true other e h = rw e
+  touching-alike true false false other e h = absurd (false≢true h)
+
+module _ (s : HullSize) (n : List Float) (l : List ℕ) (t : HullSize) (m : List Float) (k : List ℕ) (x : Transform) (f v : ℕ)
+    (y : Transform) (inverse : y ≡ invertOf x) (r : Built) (found : r ≡ faceAOf t m k s n l y f v) where
+  abbrev all : List ClipVertex
+  all = candidatesOf t m k s n l (invertOf x) f v
+
+  abbrev normal : Vec3
+  normal = planeAt t m f .normal
+
+  is : r ≡ faceAOf t m k s n l (invertOf x) f v
+  is = found ∙ ap (λ (z : Transform). faceAOf t m k s n l z f v) inverse
+
+  pub b-apart : r .touching ≡ false → r ≡ faceBOf s n l t m k x f v
+  unfolding onFace faceAOf faceBOf
+  b-apart h =
+      is ∙ apart-alike x (contactOnA normal all) (leastSeparationOf all) f v (ltb v (s .vertices)) (ltb 64 (length all)) (touchingOf (length all) (leastSeparationOf all))
+      (contactOnB x normal all) (ap (λ (z : Built). z .touching) (sym is) ∙ h)
+
+  pub b-touching : r .touching ≡ true → swapped x f v r ≡ faceBOf s n l t m k x f v
+  unfolding onFace faceAOf faceBOf
+  b-touching h =
+      ap (swapped x f v) is
+      ∙ touching-alike x (contactOnA normal all) (leastSeparationOf all) f v (ltb v (s .vertices)) (ltb 64 (length all)) (touchingOf (length all) (leastSeparationOf all))
+      (contactOnB x normal all) (carried-on-b x normal all) (ap (λ (z : Built). z .touching) (sym is) ∙ h)

@@ -1,0 +1,4 @@
+pub mod Builds
+pub mod Faces
+pub mod Carried
+pub mod EdgePairs
