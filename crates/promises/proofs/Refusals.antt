@@ -1,0 +1,173 @@
+-- Demand 1, the refusals. "Input is refused exactly when it breaks a rule of document 01, never on the caller's word; a refusal gives its number and an empty contact, and
+-- the lent cache keeps every bit." Of every call, whatever is lent. Assumes nothing.
+use Prim.Native.Nat.{ℕ, _≤_, _<_}
+use mathlib.Core.Bool.{Bool, true, false, cond, false≢true}
+use mathlib.Core.List.{List, [], _∷_}
+use mathlib.Core.Path.{_≡_, sym, ap, _∙_}
+use native.Mathlib.Omega.{arith}
+use lib.Dec.{eqb}
+use lib.IntN.{ℤ, pos}
+use lib.Signed.{ltZ}
+use lib.Ieee.{Float}
+use borrow.Author.Tests.{eqb-true, eqb-false, eq-eqb, ne-eqb}
+use Rattle.vector.specs.declared.Transform.{Transform}
+use Rattle.manifold.specs.declared.SatCache.{SatCache}
+use Rattle.manifold.specs.declared.Outcome.{Outcome}
+use Rattle.manifold.specs.declared.Answer.{Answer}
+use Rattle.manifold.specs.Records.{emptyContact}
+use Rattle.links.specs.declared.HullSize.{HullSize}
+use Rattle.links.proofs.Tests.{cases}
+use Rattle.hull.specs.Rule8.{brokenRule, transformRight}
+use Rattle.collide.specs.Refusals.{cacheRight, refusalOf}
+use Rattle.collide.specs.Call.{accepted, collideOf}
+use Rattle.collide.specs.Lent.{Called}
+use Rattle.collide.proofs.Keeps.{keeps-call}
+use Rattle.collide.proofs.Steps.{refuses-1, refuses-2, refuses-3, refuses-4, unrefused}
+use Rattle.promises.specs.Numbers.{Exactly, workMeets, numberOf}
+use Rattle.promises.proofs.Statuses.{call-status}
+use Rattle.promises.proofs.Later.{broken-at, work-late, work-not-7}
+use Rattle.promises.specs.Numbers.{firstGiven}
+
+-- hull A is (s, n, l), hull B is (t, m, k), and x places B in A's frame
+module _ (s : HullSize) (n : List Float) (l : List ℕ) (t : HullSize) (m : List Float) (k : List ℕ) (x : Transform) (capacity : ℤ) (was : SatCache) where
+  -- ---- what the client would say
+  -- the capacity is 4 or more, so that the call looks at anything else
+  abbrev Wide : Type 0
+  Wide = ltZ capacity (pos 4) ≡ false
+
+  abbrev BrokenA : Type 0
+  BrokenA = brokenRule s n l ≡ 0 → ⊥
+
+  abbrev RightA : Type 0
+  RightA = brokenRule s n l ≡ 0
+
+  abbrev BrokenB : Type 0
+  BrokenB = brokenRule t m k ≡ 0 → ⊥
+
+  abbrev RightB : Type 0
+  RightB = brokenRule t m k ≡ 0
+
+  -- ---- a number from 1 to 4 is one that is given before any work
+  abbrev early : ℕ
+  early = refusalOf s n l t m k x was
+
+  given-early : (i : ℕ) → 0 < i → i ≤ 4 → numberOf s n l t m k x capacity was ≡ i → Wide × (early ≡ i)
+  unfolding numberOf firstGiven
+  given-early i low high q =
+      cases (ltZ capacity (pos 4))
+      (λ small. absurd (omega (arith, low, sym (ap (λ (z : Bool). cond z 0 later) small) ∙ q)))
+      (λ wide. (wide, cases (eqb early 0) (λ none. absurd (too-late none (at-wide wide ∙ q))) (λ some. sym (ap (λ (z : Bool). cond z work early) some) ∙ (at-wide wide ∙ q))))
+    where
+      work : ℕ
+      work = workMeets s n l t m k x was
+
+      later : ℕ
+      later = cond (eqb early 0) work early
+
+      at-wide : ltZ capacity (pos 4) ≡ false → later ≡ cond (ltZ capacity (pos 4)) 0 later
+      at-wide wide = sym (ap (λ (z : Bool). cond z 0 later) wide)
+
+      too-late : eqb early 0 ≡ true → later ≡ i → ⊥
+      too-late none e =
+          let work-is : work ≡ i = sym (ap (λ (z : Bool). cond z work early) none) ∙ e in
+          let some : work ≡ 0 → ⊥ = λ z. absurd (omega (arith, low, work-is, z)) in
+          absurd (omega (arith, high, work-is, work-late s n l t m k x was some))
+
+  -- and one that is given before any work is the number
+  early-given : (i : ℕ) → 0 < i → Wide → early ≡ i → numberOf s n l t m k x capacity was ≡ i
+  unfolding numberOf firstGiven
+  early-given i low wide q = let some : early ≡ 0 → ⊥ = λ z. absurd (omega (arith, low, q, z)) in
+      rw (wide, ne-eqb _ _ some) q
+
+  -- ---- the demand, of what the lent call gives: was is the cache at entry, is at exit
+  module _ (r : Outcome) (is : SatCache) (called : Called (collideOf s n l t m k x capacity was) was r is) where
+    -- its number, by the table and in its order
+    pub number : r .status ≡ numberOf s n l t m k x capacity was
+    number = ap (λ (o : Outcome). o .status) (called .answers) ∙ call-status s n l t m k x capacity was
+
+    -- what is given before any work
+    exactly : (this : Type 0) (i : ℕ) → 0 < i → i ≤ 4 → (this → Wide × (early ≡ i)) → (Wide → early ≡ i → this) → Exactly this i (r .status)
+    exactly this i low high to from =
+        record {
+          given = λ h. number ∙ early-given i low (to h .0) (to h .1);
+          only = λ q. let e = given-early i low high (sym number ∙ q) in from (e .0) (e .1);
+        }
+
+    abbrev tests : List Bool
+    tests = eqb (brokenRule s n l) 0 ∷ eqb (brokenRule t m k) 0 ∷ transformRight x ∷ cacheRight s t was ∷ []
+
+    -- "1: hull A breaks a rule"
+    pub hull-a : Exactly (Wide × BrokenA) 1 (r .status)
+    unfolding refusalOf
+    hull-a =
+        exactly (Wide × BrokenA) 1 (omega arith) (omega arith) (λ h. (h .0, sym (refuses-1 s n l t m k x was (h .1))))
+        (λ wide q. (wide, eqb-false _ _ (broken-at 1 0 tests (omega arith) q .0)))
+
+    -- "2: hull B breaks a rule"
+    pub hull-b : Exactly (Wide × RightA × BrokenB) 2 (r .status)
+    unfolding refusalOf
+    hull-b =
+        exactly (Wide × RightA × BrokenB) 2 (omega arith) (omega arith) (λ h. (h .0, sym (refuses-2 s n l t m k x was (h .1) (h .2))))
+        (λ wide q. let b = broken-at 1 1 tests (omega arith) q in (wide, eqb-true _ _ (b .1 0 (omega arith)), eqb-false _ _ (b .0)))
+
+    -- "3: the transform breaks a rule"
+    pub transform : Exactly (Wide × RightA × RightB × (transformRight x ≡ false)) 3 (r .status)
+    unfolding refusalOf
+    transform =
+        exactly (Wide × RightA × RightB × (transformRight x ≡ false)) 3 (omega arith) (omega arith) (λ h. (h .0, sym (refuses-3 s n l t m k x was (h .1) (h .2) (h .3))))
+        (λ wide q. let b = broken-at 1 2 tests (omega arith) q in (wide, eqb-true _ _ (b .1 0 (omega arith)), eqb-true _ _ (b .1 1 (omega arith)), b .0))
+
+    -- "4: the cache's type is 2 and index_a >= F of A; 3 and index_b >= F of B; 4 and either index is odd or not below its hull's H"
+    pub cache : Exactly (Wide × RightA × RightB × (transformRight x ≡ true) × (cacheRight s t was ≡ false)) 4 (r .status)
+    unfolding refusalOf
+    cache =
+        exactly (Wide × RightA × RightB × (transformRight x ≡ true) × (cacheRight s t was ≡ false)) 4 (omega arith) (omega arith)
+        (λ h. (h .0, sym (refuses-4 s n l t m k x was (h .1) (h .2) (h .3) (h .4))))
+        (λ wide q. let b = broken-at 1 3 tests (omega arith) q in
+        (wide, eqb-true _ _ (b .1 0 (omega arith)), eqb-true _ _ (b .1 1 (omega arith)), b .1 2 (omega arith), b .0))
+
+    -- what passes 1 to 4 is accepted, or the work met a number: 5 or 6, by `workMeets`; 7 is never met
+    pub passed : Wide → early ≡ 0 → r .status ≡ workMeets s n l t m k x was
+    unfolding numberOf firstGiven
+    passed wide q = number ∙ rw (wide, eq-eqb _ _ q)
+
+    -- a call that looks at its input and accepts it found no rule broken
+    pub none-given : Wide → r .status ≡ 0 → refusalOf s n l t m k x was ≡ 0
+    unfolding numberOf firstGiven
+    none-given wide q =
+        cases (eqb early 0) (λ none. eqb-true _ _ none)
+        (λ some. let is-early : r .status ≡ early = number ∙ rw (wide, some) in absurd (eqb-false _ _ some (sym is-early ∙ q)))
+
+    early-not-7 : early ≡ 7 → ⊥
+    unfolding refusalOf
+    early-not-7 e = false≢true (sym (broken-at 1 6 tests (omega arith) e .0))
+
+    pub never-7 : r .status ≡ 7 → ⊥
+    unfolding numberOf firstGiven
+    never-7 q =
+        cases (ltZ capacity (pos 4))
+        (λ small. let none : r .status ≡ 0 = number ∙ rw small in absurd (omega (arith, none, q)))
+        (λ wide.
+        cases (eqb early 0)
+        (λ none. let u = unrefused s n l t m k x was (eqb-true _ _ none) in work-not-7 x (u .0) (u .1) (u .2) was (sym (passed wide (eqb-true _ _ none)) ∙ q))
+        (λ some. let is-early : r .status ≡ early = number ∙ rw (wide, some) in early-not-7 (sym is-early ∙ q)))
+
+    -- a refusal gives an empty contact
+    pub empty-contact : (r .status ≡ 0 → ⊥) → r .contact ≡ emptyContact
+    empty-contact h =
+        ap (λ (o : Outcome). o .contact) (called .answers)
+        ∙ keeps-call was s n l t m k x capacity .empty (λ z. h (ap (λ (o : Outcome). o .status) (called .answers) ∙ z))
+
+    -- and the lent cache keeps every bit
+    pub cache-kept : (r .status ≡ 0 → ⊥) → is ≡ was
+    cache-kept = called .keeps
+
+    -- "capacity below 4 comes first and is accepted, with no points, the cache untouched, nothing else looked at"
+    pub small-capacity : ltZ capacity (pos 4) ≡ true → (r .status ≡ 0) × (r .contact ≡ emptyContact) × (is ≡ was)
+    unfolding collideOf
+    small-capacity small =
+        let untouched : collideOf s n l t m k x capacity was ≡ accepted emptyContact was = rw small in (
+          ap (λ (o : Outcome). o .status) (called .answers) ∙ ap (λ (a : Answer). a .outcome .status) untouched,
+          ap (λ (o : Outcome). o .contact) (called .answers) ∙ ap (λ (a : Answer). a .outcome .contact) untouched,
+          called .updates ∙ ap (λ (a : Answer). a .cache) untouched,
+        )
