@@ -1,11 +1,12 @@
--- The two loops round a face: one builds a polygon of its corners, the other cuts a polygon by its sides. Assumes nothing.
+-- The two loops round a face: one lays out a polygon of its corners, the other cuts a polygon by its sides. Assumes nothing.
 use Prim.Native.Nat.{ℕ, suc, _+_, _-_, _≤_, _<_}
 use mathlib.Core.Path.{_≡_, refl, sym, ap, _∙_, subst}
-use mathlib.Core.Bool.{true, false, and-false}
+use mathlib.Core.Bool.{false, and-false}
 use mathlib.Core.List.{List, [], _∷_, _++_, append-assoc, append-nil, map}
+use mathlib.Core.Logic.{_⊎_, inl, inr}
 use native.Mathlib.Omega.{arith}
 use native.Mathlib.Decide.{decLe}
-use lib.ListN.{length, set, take, replicate, length-map}
+use lib.ListN.{length, take, length-map}
 use lib.Seq.{take-nil, take-all, length-take-le}
 use lib.Dec.{leb}
 use lib.Ieee.{Float}
@@ -13,11 +14,8 @@ use borrow.Author.Tests.{le-leb, lt-leb}
 use Rattle.vector.specs.declared.Plane.{Plane}
 use Rattle.vector.specs.declared.Transform.{Transform}
 use Rattle.manifold.specs.declared.ClipVertex.{ClipVertex}
-use Rattle.manifold.specs.declared.Polygon.{Polygon}
-use Rattle.manifold.specs.Records.{zeroVertex}
-use Rattle.manifold.specs.Polygons.{cornersOf, placesOf, polygonOf}
-use Rattle.manifold.proofs.Polygons.{first-most, put-corner, length-snoc}
-use Rattle.rotation.specs.Rotation.{matrixOf}
+use Rattle.manifold.proofs.Polygons.{first-most}
+use Rattle.rotation.specs.Rotation.{Rows, matrixOf}
 use Rattle.links.specs.declared.HullSize.{HullSize}
 use Rattle.links.specs.Walks.{ring}
 use Rattle.links.specs.Links.{next, faceEdge, faceRing}
@@ -27,29 +25,55 @@ use Rattle.hull.specs.Numbers.{planeAt}
 use Rattle.hull.specs.Accepted.{Accepted}
 use Rattle.cut.specs.declared.Clipped.{Clipped}
 use Rattle.cut.specs.Cut.{cutOf}
+use Rattle.cut.specs.Places.{Roomy, SideBySide, cornersIn, packedOf, Laid}
 use Rattle.cut.specs.Results.{clippedOf}
-use Rattle.cut.proofs.Results.{too-many, not-many, all-corners, all-counted}
+use Rattle.cut.proofs.Laying.{lays-none, lays-on, still-roomy}
+use Rattle.cut.proofs.Reading.{all-counted, all-back, packed-is}
 use Rattle.clip.specs.Candidates.{cornerOf, builtOf, sidePlaneOf, cutOn, goesOn, cutRound}
 
 -- the half-edges behind e, on the way round the face whose ring begins at start
 abbrev pub leftOf : HullSize → List ℕ → ℕ → ℕ → List ℕ
 leftOf s l start e = rest (next s l) (s .«half_edges») start e
 
--- a polygon is built of the corners f: k of them stand in it, and the loop is at half-edge e
-pub record Building (s : HullSize) (l : List ℕ) (start : ℕ) (f : ℕ → ClipVertex) (out : List ClipVertex) (e k : ℕ) : Type 0 where
+-- a polygon is built of the corners f: k of them are laid, and the loop is at half-edge e
+pub record Building (s : HullSize) (l : List ℕ) (start : ℕ) (f : ℕ → ClipVertex) (n₀ : List Float) (t₀ : List ℕ) (n : List Float) (t : List ℕ) (e k : ℕ) : Type 0 where
   pub here : Along (next s l) (s .«half_edges») start e
   pub room : k < 64
   pub done : List ClipVertex
-  pub counted : length done ≡ k
-  pub stored : out ≡ placesOf done
+  pub stored : Laid n₀ t₀ 0 0 done n t k
   pub whole : done ++ map f (take (64 - k) (e ∷ leftOf s l start e)) ≡ map f (take 64 (start ∷ leftOf s l start start))
 
--- a polygon is cut: this is left of it, the loop is at half-edge e, and all cuts will leave `all`
-pub record Round (s : HullSize) (n : List Float) (l : List ℕ) (face start : ℕ) (all : List ClipVertex) (polygon : Polygon) (e : ℕ) : Type 0 where
+-- a polygon is cut: m corners from corner p on are left of it, the loop is at half-edge e, and all cuts will leave `all`
+pub record Round (s : HullSize) (n : List Float) (l : List ℕ) (face start : ℕ) (all : List ClipVertex) (places : List Float) (tags : List ℕ) (p m e : ℕ) : Type 0 where
   pub here : Along (next s l) (s .«half_edges») start e
-  pub some : 0 < polygon .count
-  pub room : polygon .count ≤ 64
-  pub whole : cutRound s n l face (e ∷ leftOf s l start e) (cornersOf polygon) ≡ all
+  pub room : Roomy places tags
+  pub half : (p ≡ 0) ⊎ (p ≡ 64)
+  pub some : 0 < m
+  pub most : m ≤ 64
+  pub whole : cutRound s n l face (e ∷ leftOf s l start e) (cornersIn places tags p m) ≡ all
+
+-- the polygon that is to be cut is laid in the first half
+pub record Begun (places : List Float) (tags : List ℕ) (m : ℕ) (built : List ClipVertex) : Type 0 where
+  pub room : Roomy places tags
+  pub some : 0 < m
+  pub most : m ≤ 64
+  pub are : cornersIn places tags 0 m ≡ built
+
+-- ---- the two halves of the lists
+pub other-half : (p : ℕ) → (p ≡ 0) ⊎ (p ≡ 64) → (64 - p ≡ 0) ⊎ (64 - p ≡ 64)
+other-half p (inl h) = inr (omega arith)
+other-half p (inr h) = inl (omega arith)
+
+pub half-most : (p : ℕ) → (p ≡ 0) ⊎ (p ≡ 64) → p ≤ 64
+half-most p (inl h) = omega arith
+half-most p (inr h) = omega arith
+
+pub halves : (p : ℕ) → (p ≡ 0) ⊎ (p ≡ 64) → SideBySide p (64 - p)
+halves p h = record { low = (half-most p h, omega arith); apart = by h }
+  where
+    by : (p ≡ 0) ⊎ (p ≡ 64) → (p + 64 ≤ 64 - p) ⊎ (64 - p + 64 ≤ p)
+    by (inl h) = inl (omega arith)
+    by (inr h) = inr (omega arith)
 
 -- ---- the polygon of a face has a corner, and no more than 64
 first-some : (es : List ℕ) → 1 ≤ length es → 1 ≤ length (take 64 es)
@@ -59,12 +83,39 @@ first-some es h = by (decLe (length es) 64)
     by (yes k) = rw (take-all 64 es k) h
     by (no k) = omega (arith, length-take-le 64 es (omega arith))
 
-pub built-some : (s : HullSize) (n : List Float) (l : List ℕ) (t : Transform) (reference : Plane) (face : ℕ) (p : Polygon) → p ≡ polygonOf (builtOf s n l t reference face)
-    → (0 < p .count) × (p .count ≤ 64)
+built-some : (s : HullSize) (n : List Float) (l : List ℕ) (t : Transform) (reference : Plane) (face : ℕ)
+    → (0 < length (builtOf s n l t reference face)) × (length (builtOf s n l t reference face) ≤ 64)
 unfolding builtOf
-built-some s n l t reference face p q =
-    let c : p .count ≡ length (take 64 (faceRing s l face)) = ap (λ (x : Polygon). x .count) q ∙ length-map (take 64 (faceRing s l face)) (cornerOf s n l (matrixOf (t .q)) (t .p) reference) in
-    rw c (first-some (faceRing s l face) (ring-some (next s l) (s .«half_edges») (faceEdge s l face)), first-most (faceRing s l face))
+built-some s n l t reference face =
+    rw (length-map (take 64 (faceRing s l face)) (cornerOf s n l (matrixOf (t .q)) (t .p) reference))
+    (first-some (faceRing s l face) (ring-some (next s l) (s .«half_edges») (faceEdge s l face)), first-most (faceRing s l face))
+
+module _ (s : HullSize) (n : List Float) (l : List ℕ) (t : Transform) (reference : Plane) (face : ℕ) where
+  pub begun : (places : List Float) (tags : List ℕ) (places′ : List Float) (tags′ : List ℕ) (m : ℕ) → Roomy places tags
+      → Laid places tags 0 0 (builtOf s n l t reference face) places′ tags′ m → Begun places′ tags′ m (builtOf s n l t reference face)
+  begun places tags places′ tags′ m room x =
+      let built = builtOf s n l t reference face in
+      let z = built-some s n l t reference face in
+      let c : m ≡ length built = all-counted places tags 0 built places′ tags′ m room (omega arith) x in
+      record {
+        room = still-roomy places tags 0 0 built places′ tags′ m x room;
+        some = omega (arith, c, z .0);
+        most = omega (arith, c, z .1);
+        are = all-back places tags 0 built places′ tags′ m room (omega arith) x (omega (arith, c, z .1));
+      }
+
+  -- what is left of it, with the reference face by its name
+  pub left-of-built : (s′ : HullSize) (n′ : List Float) (l′ es : List ℕ) (f m : ℕ) (places : List Float) (tags : List ℕ) → Begun places tags m (builtOf s n l t reference face) → reference ≡ planeAt s′ n′ f
+      → clippedOf (cutRound s′ n′ l′ f es (cornersIn places tags 0 m)) ≡ clippedOf (cutRound s′ n′ l′ f es (builtOf s n l t (planeAt s′ n′ f) face))
+  left-of-built s′ n′ l′ es f m places tags b p =
+      ap (λ (z : List ClipVertex). clippedOf (cutRound s′ n′ l′ f es z)) (b .are ∙ ap (λ (z : Plane). builtOf s n l t z face) p)
+
+-- the corners are carried by the matrix of the transform
+pub built-is : (s : HullSize) (n : List Float) (l : List ℕ) (t : Transform) (reference : Plane) (face : ℕ) (matrix : Rows) (n₀ : List Float) (t₀ : List ℕ) (n′ : List Float) (t′ : List ℕ) (k : ℕ)
+    → matrix ≡ matrixOf (t .q) → Laid n₀ t₀ 0 0 (map (cornerOf s n l matrix (t .p) reference) (take 64 (faceRing s l face))) n′ t′ k
+    → Laid n₀ t₀ 0 0 (builtOf s n l t reference face) n′ t′ k
+unfolding builtOf
+built-is s n l t reference face matrix n₀ t₀ n′ t′ k h x = rw (← h) x
 
 module _ (s : HullSize) (n : List Float) (l : List ℕ) (ok : Accepted s n l) (face : ℕ) (face-in : face < s .faces) (start : ℕ) (q : start ≡ faceEdge s l face) where
   -- the ring sets out from the stored edge
@@ -77,103 +128,120 @@ module _ (s : HullSize) (n : List Float) (l : List ℕ) (ok : Accepted s n l) (f
   face-ring = sym (ring-rest (next s l) (s .«half_edges») start) ∙ ap (ring (next s l) (s .«half_edges»)) q
 
   -- ---- building
-  module _ (f : ℕ → ClipVertex) where
-    pub build-begins : (out : List ClipVertex) → out ≡ replicate 64 zeroVertex → Building s l start f out start 0
-    build-begins out z = record { here = face-along; room = omega arith; done = []; counted = refl; stored = z; whole = refl }
+  module _ (f : ℕ → ClipVertex) (n₀ : List Float) (t₀ : List ℕ) where
+    pub build-begins : Building s l start f n₀ t₀ n₀ t₀ start 0
+    build-begins = record { here = face-along; room = omega arith; done = []; stored = lays-none n₀ t₀ 0 0; whole = refl }
 
-    module _ (out : List ClipVertex) (e k t : ℕ) (v : ClipVertex) (b : Building s l start f out e k) (p : v ≡ f e) (w : t ≡ next s l e) where
+    module _ (places : List Float) (tags : List ℕ) (e k : ℕ) (b : Building s l start f n₀ t₀ places tags e k) (v : ClipVertex) (p : v ≡ f e) (places′ : List Float) (tags′ : List ℕ) (k′ : ℕ)
+        (x : Laid places tags 0 k (v ∷ []) places′ tags′ k′) (t : ℕ) (w : t ≡ next s l e) where
       abbrev more : List ClipVertex
       more = b .done ++ (v ∷ [])
 
-      more-counted : length more ≡ k + 1
-      more-counted = length-snoc (b .done) v ∙ ap (λ (x : ℕ). x + 1) (b .counted)
+      more-stored : Laid n₀ t₀ 0 0 more places′ tags′ k′
+      more-stored = lays-on n₀ t₀ 0 0 (b .done) places tags k (b .stored) (v ∷ []) places′ tags′ k′ x
 
-      more-stored : set out k v ≡ placesOf more
-      more-stored =
-          rw (b .stored)
-          (subst (λ (x : ℕ). set (placesOf (b .done)) x v ≡ placesOf more) (b .counted) (put-corner (b .done) v (omega (arith, b .counted, b .room))))
+      pub build-roomy : Roomy n₀ t₀ → Roomy places′ tags′
+      build-roomy room = still-roomy n₀ t₀ 0 0 more places′ tags′ k′ more-stored room
 
       more-whole : (es : List ℕ) → es ≡ take (63 - k) (leftOf s l start e) → more ++ map f es ≡ map f (take 64 (start ∷ leftOf s l start start))
       more-whole es r =
           let z : 64 - k ≡ suc (63 - k) = omega (arith, b .room) in
           append-assoc (b .done) (v ∷ []) (map f es) ∙ rw (r, p) (rw z at (b .whole))
 
-      pub build-goes : (t ≡ start → ⊥) → k + 1 < 64 → Building s l start f (set out k v) t (k + 1)
+      pub build-goes : (t ≡ start → ⊥) → k′ < 64 → Building s l start f n₀ t₀ places′ tags′ t k′
       build-goes nay h =
-          let z : 64 - (k + 1) ≡ 63 - k = omega arith in
+          let z : 64 - k′ ≡ 63 - k = omega (arith, x .counted) in
           record {
             here = goes-along _ _ _ e t (b .here) w nay (ok .next-in);
             room = h;
             done = more;
-            counted = more-counted;
             stored = more-stored;
-            whole = more-whole (take (64 - (k + 1)) (t ∷ leftOf s l start t)) (rw (z, rest-more _ _ _ e t (b .here) w nay));
+            whole = more-whole (take (64 - k′) (t ∷ leftOf s l start t)) (rw (z, rest-more _ _ _ e t (b .here) w nay));
           }
 
       pub build-shorter : (t ≡ start → ⊥) → length (leftOf s l start t) < length (leftOf s l start e)
       build-shorter nay = rest-shorter _ _ _ e t (b .here) w nay
 
-      ends : [] ≡ take (63 - k) (leftOf s l start e) → _≡_ {A = Polygon} (record { vertices = set out k v; count = k + 1 }) (polygonOf (map f (take 64 (faceRing s l face))))
+      ends : [] ≡ take (63 - k) (leftOf s l start e) → Laid n₀ t₀ 0 0 (map f (take 64 (faceRing s l face))) places′ tags′ k′
       ends r =
           let all : more ≡ map f (take 64 (faceRing s l face)) = sym (append-nil more) ∙ more-whole [] r ∙ ap (λ (es : List ℕ). map f (take 64 es)) face-ring in
-          rw (more-stored, ← more-counted, all)
+          subst (λ (z : List ClipVertex). Laid n₀ t₀ 0 0 z places′ tags′ k′) all more-stored
 
       -- back at the start, or the 64th corner
-      pub build-back : t ≡ start → _≡_ {A = Polygon} (record { vertices = set out k v; count = k + 1 }) (polygonOf (map f (take 64 (faceRing s l face))))
+      pub build-back : t ≡ start → Laid n₀ t₀ 0 0 (map f (take 64 (faceRing s l face))) places′ tags′ k′
       build-back z = ends (sym (ap (take (63 - k)) (no-more _ _ _ e t w z) ∙ take-nil (63 - k)))
 
-      pub build-full : 64 ≤ k + 1 → _≡_ {A = Polygon} (record { vertices = set out k v; count = k + 1 }) (polygonOf (map f (take 64 (faceRing s l face))))
-      build-full h = let z : 63 - k ≡ 0 = omega arith in
+      pub build-full : 64 ≤ k′ → Laid n₀ t₀ 0 0 (map f (take 64 (faceRing s l face))) places′ tags′ k′
+      build-full h = let z : 63 - k ≡ 0 = omega (arith, x .counted) in
           ends (rw z refl)
 
   -- ---- cutting
-  pub round-begins : (polygon : Polygon) → 0 < polygon .count → polygon .count ≤ 64 → Round s n l face start (cutRound s n l face (faceRing s l face) (cornersOf polygon)) polygon start
-  round-begins polygon a b = record {
+  pub round-begins : (places : List Float) (tags : List ℕ) (m : ℕ) (built : List ClipVertex) → Begun places tags m built
+      → Round s n l face start (cutRound s n l face (faceRing s l face) (cornersIn places tags 0 m)) places tags 0 m start
+  round-begins places tags m built b = record {
     here = face-along;
-    some = a;
-    room = b;
-    whole = ap (λ (es : List ℕ). cutRound s n l face es (cornersOf polygon)) face-ring;
+    room = b .room;
+    half = inl refl;
+    some = b .some;
+    most = b .most;
+    whole = ap (λ (es : List ℕ). cutRound s n l face es (cornersIn places tags 0 m)) face-ring;
   }
 
-  module _ (all : List ClipVertex) (polygon : Polygon) (e t : ℕ) (reference plane : Plane) (c : Clipped) (r : Round s n l face start all polygon e) (p : reference ≡ planeAt s n face)
-      (side : plane ≡ sidePlaneOf s n l (reference .normal) e) (is : c ≡ clippedOf (cutOf plane e reference (cornersOf polygon))) where
+  module _ (all : List ClipVertex) (places : List Float) (tags : List ℕ) (p m e : ℕ) (r : Round s n l face start all places tags p m e) (reference plane : Plane) (is : reference ≡ planeAt s n face)
+      (side : plane ≡ sidePlaneOf s n l (reference .normal) e) (places′ : List Float) (tags′ : List ℕ) (m′ : ℕ)
+      (x : Laid places tags (64 - p) 0 (cutOf plane e reference (cornersIn places tags p m)) places′ tags′ m′) where
     abbrev this : List ClipVertex
-    this = cutOn s n l face e (cornersOf polygon)
+    this = cutOn s n l face e (cornersIn places tags p m)
 
-    is-cut : c ≡ clippedOf this
+    is-cut : Laid places tags (64 - p) 0 this places′ tags′ m′
     unfolding cutOn
-    is-cut = is ∙ rw (side, p)
+    is-cut = rw (← is, ← side) x
 
-    stops : goesOn this ≡ false → c ≡ clippedOf all
-    unfolding cutRound
-    stops z = is-cut ∙ ap clippedOf (rw z at (r .whole))
+    pub cut-roomy : Roomy places′ tags′
+    cut-roomy = still-roomy places tags (64 - p) 0 this places′ tags′ m′ is-cut (r .room)
 
-    -- a 65th corner, and fewer than three
-    pub round-full : c .full ≡ true → c ≡ clippedOf all
-    unfolding goesOn
-    round-full h = stops (rw (lt-leb (length this) 64 (too-many c this is-cut h)) (and-false (leb 3 (length this))))
+    low : 64 - p ≤ 64
+    low = omega arith
 
-    pub round-few : c .full ≡ false → c .polygon .count < 3 → c ≡ clippedOf all
-    unfolding goesOn
-    round-few h k = stops (rw (lt-leb 3 (length this) (omega (arith, k, all-counted c this is-cut h))) refl)
+    count : m′ ≡ length this
+    count = all-counted places tags (64 - p) this places′ tags′ m′ (r .room) low is-cut
+
+    -- what is packed at the end
+    module _ (c : Clipped) (packs : c ≡ packedOf places′ tags′ (64 - p) m′) where
+      packs-cut : c ≡ clippedOf this
+      packs-cut = packs ∙ packed-is places tags (64 - p) this places′ tags′ m′ (r .room) low is-cut
+
+      stops : goesOn this ≡ false → c ≡ clippedOf all
+      unfolding cutRound
+      stops z = packs-cut ∙ ap clippedOf (rw z at (r .whole))
+
+      -- a 65th corner, and fewer than three
+      pub round-full : 64 < m′ → c ≡ clippedOf all
+      unfolding goesOn
+      round-full h = stops (rw (lt-leb (length this) 64 (omega (arith, h, count))) (and-false (leb 3 (length this))))
+
+      pub round-few : m′ < 3 → c ≡ clippedOf all
+      unfolding goesOn
+      round-few h = stops (rw (lt-leb 3 (length this) (omega (arith, h, count))) refl)
 
     -- else the cuts go on
-    module _ (h : c .full ≡ false) (k : 3 ≤ c .polygon .count) (w : t ≡ next s l e) where
+    module _ (h : m′ ≤ 64) (k : 3 ≤ m′) (t : ℕ) (w : t ≡ next s l e) where
       goes : cutRound s n l face (leftOf s l start e) this ≡ all
       unfolding cutRound goesOn
-      goes =
-          rw (le-leb 3 (length this) (omega (arith, k, all-counted c this is-cut h)), le-leb (length this) 64 (not-many c this is-cut h)) at (r .whole)
+      goes = rw (le-leb 3 (length this) (omega (arith, k, count)), le-leb (length this) 64 (omega (arith, h, count))) at (r .whole)
 
-      pub round-back : t ≡ start → c ≡ clippedOf all
+      pub round-back : (c : Clipped) → c ≡ packedOf places′ tags′ (64 - p) m′ → t ≡ start → c ≡ clippedOf all
       unfolding cutRound
-      round-back z = is-cut ∙ ap clippedOf (ap (λ (es : List ℕ). cutRound s n l face es this) (sym (no-more _ _ _ e t w z)) ∙ goes)
+      round-back c packs z = packs-cut c packs ∙ ap clippedOf (ap (λ (es : List ℕ). cutRound s n l face es this) (sym (no-more _ _ _ e t w z)) ∙ goes)
 
-      pub round-goes : (t ≡ start → ⊥) → Round s n l face start all (c .polygon) t
+      pub round-goes : (t ≡ start → ⊥) → Round s n l face start all places′ tags′ (64 - p) m′ t
       round-goes nay = record {
         here = goes-along _ _ _ e t (r .here) w nay (ok .next-in);
+        room = cut-roomy;
+        half = other-half p (r .half);
         some = omega (arith, k);
-        room = omega (arith, all-counted c this is-cut h, not-many c this is-cut h);
-        whole = rw (all-corners c this is-cut h, ← rest-more _ _ _ e t (r .here) w nay) goes;
+        most = h;
+        whole = rw (all-back places tags (64 - p) this places′ tags′ m′ (r .room) low is-cut h, ← rest-more _ _ _ e t (r .here) w nay) goes;
       }
 
       pub round-shorter : (t ≡ start → ⊥) → length (leftOf s l start t) < length (leftOf s l start e)

@@ -3,18 +3,20 @@
 pub mod incident;
 
 ghost use mathlib.Core.Path.{_≡_};
-ghost use Prim.Native.Nat.{_≤_, _<_};
+ghost use Prim.Native.Nat.{_<_};
 ghost use Rattle.rotation.specs.Rotation.{Rows};
-ghost use Rattle.manifold.specs.Polygons.{cornersOf, polygonOf};
 ghost use Rattle.links.specs.Links.{faceRing};
+ghost use Rattle.hull.specs.Numbers.{planeAt};
 ghost use Rattle.hull.specs.Accepted.{Accepted};
+ghost use Rattle.cut.specs.Places.{Roomy, Laid};
 ghost use Rattle.cut.specs.Results.{clippedOf};
 ghost use Rattle.clip.specs.Candidates.{cornerOf, builtOf, sidePlaneOf, cutRound, candidatesOf};
 use crate::incident::find_incident_face;
 use cut::Clipped;
+use cut::places::packed;
+use cut::places::put;
 use links::HullSize;
 use manifold::ClipVertex;
-use manifold::Polygon;
 use manifold::pairs::FeatureOwner;
 use manifold::pairs::make_feature_pair;
 use vector::Plane;
@@ -58,7 +60,8 @@ fn corner(
     }
 }
 
-// A face as a polygon in the other frame, from its stored edge; a ring longer than 64 is read to 64.
+// A face as a polygon in the other frame, from its stored edge, in lent lists from corner 0 on; the return says how many corners it has. A ring longer than 64 is
+// read to 64.
 pub fn build_polygon(
     numbers: &[f32],
     links: &[u8],
@@ -66,33 +69,26 @@ pub fn build_polygon(
     transform: Transform,
     face: usize,
     reference: Plane,
-) -> Polygon
-    requires { ⌜ Accepted size (now numbers) (now links) × (face < size .faces) ⌝ }
-    ensures { λ r. ⌜ r ≡ polygonOf (builtOf size (now (numbers .entry)) (now (links .entry)) transform reference face) ⌝ }
+    places: &mut [f32],
+    tags: &mut [u8],
+) -> usize
+    requires { ⌜ Accepted size (now numbers) (now links) × (face < size .faces) × Roomy (now places) (now tags) ⌝ }
+    ensures { λ r. ⌜ Laid (now (places .entry)) (now (tags .entry)) 0 0 (builtOf size (now (numbers .entry)) (now (links .entry)) transform reference face) (now (places .exit)) (now (tags .exit)) r ⌝ }
 {
     let matrix = rotation::make_matrix_from_quat(transform.q);
     let p = transform.p;
-    let zero = manifold::records::zero_vertex();
-    let mut out = [zero; 64];
     let start = links::face_edge(links, size, face);
     let mut e = start;
     let mut n = 0;
     loop {
         let v = corner(numbers, links, size, matrix, p, e, reference);
-        out[n] = v;
-        n += 1;
+        n = put(places, tags, 0, n, v);
         e = links::next_of(links, size, e);
         if e == start {
-            return Polygon {
-                vertices: out,
-                count: n,
-            };
+            return n;
         }
         if n >= 64 {
-            return Polygon {
-                vertices: out,
-                count: n,
-            };
+            return n;
         }
     }
 }
@@ -109,34 +105,52 @@ fn side_plane(numbers: &[f32], links: &[u8], size: HullSize, e: usize, normal: V
     make_plane_from_normal_and_point(cross(tangent, normal), vertex1)
 }
 
-// A polygon cut by the sides of a face in the order of its ring. A cut that leaves fewer than three corners, or more than 64, is the last.
+// A face of hull B as a polygon in A's frame, cut by the sides of a face of hull A in the order of its ring. A cut that leaves fewer than three corners, or more than
+// 64, is the last. Each cut goes from one half of the lists to the other.
 pub fn clip_to_face(
-    numbers: &[f32],
-    links: &[u8],
-    size: HullSize,
+    numbers_a: &[f32],
+    links_a: &[u8],
+    size_a: HullSize,
     face: usize,
-    polygon: Polygon,
+    numbers_b: &[f32],
+    links_b: &[u8],
+    size_b: HullSize,
+    transform: Transform,
+    incident: usize,
 ) -> Clipped
-    requires { ⌜ Accepted size (now numbers) (now links) × (face < size .faces) × (0 < polygon .count) × (polygon .count ≤ 64) ⌝ }
-    ensures { λ r. ⌜ r ≡ clippedOf (cutRound size (now (numbers .entry)) (now (links .entry)) face (faceRing size (now (links .entry)) face) (cornersOf polygon)) ⌝ }
+    requires { ⌜ Accepted «size_a» (now «numbers_a») (now «links_a») × Accepted «size_b» (now «numbers_b») (now «links_b») × (face < «size_a» .faces) × (incident < «size_b» .faces) ⌝ }
+    ensures { λ r. ⌜ r ≡ clippedOf (cutRound «size_a» (now («numbers_a» .entry)) (now («links_a» .entry)) face (faceRing «size_a» (now («links_a» .entry)) face) (builtOf «size_b» (now («numbers_b» .entry)) (now («links_b» .entry)) transform (planeAt «size_a» (now («numbers_a» .entry)) face) incident)) ⌝ }
 {
-    let reference = hull::plane_at(numbers, size, face);
-    let start = links::face_edge(links, size, face);
-    let mut left = polygon;
+    let reference = hull::plane_at(numbers_a, size_a, face);
+    let start = links::face_edge(links_a, size_a, face);
+    let mut places = [0.0f32; 512];
+    let mut tags = [0u8; 512];
+    let mut n = build_polygon(
+        numbers_b,
+        links_b,
+        size_b,
+        transform,
+        incident,
+        reference,
+        &mut places,
+        &mut tags,
+    );
+    let mut p = 0;
     let mut e = start;
     loop {
-        let plane = side_plane(numbers, links, size, e, reference.normal);
-        let clipped = cut::clip_polygon(left, plane, e as u8, reference);
-        if clipped.full {
-            return clipped;
+        let plane = side_plane(numbers_a, links_a, size_a, e, reference.normal);
+        let q = 64 - p;
+        n = cut::clip_polygon(&mut places, &mut tags, p, n, plane, e as u8, reference, q);
+        p = q;
+        if n > 64 {
+            return packed(&places, &tags, p, n);
         }
-        left = clipped.polygon;
-        if left.count < 3 {
-            return clipped;
+        if n < 3 {
+            return packed(&places, &tags, p, n);
         }
-        e = links::next_of(links, size, e);
+        e = links::next_of(links_a, size_a, e);
         if e == start {
-            return clipped;
+            return packed(&places, &tags, p, n);
         }
     }
 }
@@ -159,6 +173,15 @@ pub fn candidates(
     let reference = hull::plane_at(numbers_a, size_a, face);
     let normal = rotation::inv_rotate_vector(transform.q, reference.normal);
     let incident = find_incident_face(numbers_b, links_b, size_b, normal, vertex);
-    let polygon = build_polygon(numbers_b, links_b, size_b, transform, incident, reference);
-    clip_to_face(numbers_a, links_a, size_a, face, polygon)
+    clip_to_face(
+        numbers_a,
+        links_a,
+        size_a,
+        face,
+        numbers_b,
+        links_b,
+        size_b,
+        transform,
+        incident,
+    )
 }

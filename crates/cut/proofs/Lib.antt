@@ -1,2 +1,4 @@
+pub mod Laying
+pub mod Reading
 pub mod Cutting
 pub mod Results

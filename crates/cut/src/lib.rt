@@ -1,10 +1,13 @@
 // One cut of a polygon by a plane, from clip.rs: what lies on or below the plane stays, and new corners stand where the outline meets it.
 // What each edge of the polygon puts out, and the whole cut as a list, is in specs/Cut.antt.
+pub mod places;
+
 ghost use mathlib.Core.Path.{_≡_};
 ghost use Prim.Native.Nat.{_≤_, _<_};
-ghost use Rattle.manifold.specs.Polygons.{cornersOf};
 ghost use Rattle.cut.specs.Cut.{meetingOf, leavingOf, enteringOf, putOutOf, cutOf};
-ghost use Rattle.cut.specs.Results.{cornersAt, clippedOf};
+ghost use Rattle.cut.specs.Places.{Roomy, SideBySide, cornersIn, Laid};
+use crate::places::corner_at;
+use crate::places::put;
 use manifold::ClipVertex;
 use manifold::FeaturePair;
 use manifold::Polygon;
@@ -12,7 +15,6 @@ use vector::Plane;
 use vector::Vec3;
 use vector::arithmetic::mul_add;
 use vector::arithmetic::sub;
-use vector::scalar::min_int;
 use vector::shape::plane_separation;
 
 // What a cut leaves: the first 64 corners, and whether there was a 65th, which is refusal 6.
@@ -20,13 +22,6 @@ use vector::shape::plane_separation;
 pub struct Clipped {
     pub polygon: Polygon,
     pub full: bool,
-}
-
-// What one edge puts out: none, the first, or both of two corners.
-pub struct Corners {
-    pub count: usize,
-    pub first: ClipVertex,
-    pub second: ClipVertex,
 }
 
 // Where the edge from v1 to v2, at the distances d1 and d2, meets the plane.
@@ -85,85 +80,68 @@ fn entering(
     }
 }
 
-// What the edge from v1 to v2 puts out.
-fn put_out(v1: ClipVertex, d1: f32, v2: ClipVertex, d2: f32, edge: u8, reference: Plane) -> Corners
-    ensures { λ r. ⌜ r ≡ cornersAt v2 (putOutOf edge reference v1 d1 v2 d2) ⌝ }
+// What the edge from v1 to v2 puts out, behind the k corners that stand from corner p on.
+fn put_out(
+    numbers: &mut [f32],
+    tags: &mut [u8],
+    p: usize,
+    k: usize,
+    v1: ClipVertex,
+    d1: f32,
+    v2: ClipVertex,
+    d2: f32,
+    edge: u8,
+    reference: Plane,
+) -> usize
+    requires { ⌜ Roomy (now numbers) (now tags) × (p ≤ 64) × (k < 128) ⌝ }
+    ensures { λ r. ⌜ Laid (now (numbers .entry)) (now (tags .entry)) p k (putOutOf edge reference v1 d1 v2 d2) (now (numbers .exit)) (now (tags .exit)) r ⌝ }
 {
     if d1 <= 0.0 {
         if d2 <= 0.0 {
-            return Corners {
-                count: 1,
-                first: v2,
-                second: v2,
-            };
+            return put(numbers, tags, p, k, v2);
         }
         if d2 > 0.0 {
-            return Corners {
-                count: 1,
-                first: leaving(v1, d1, v2, d2, edge, reference),
-                second: v2,
-            };
+            let v = leaving(v1, d1, v2, d2, edge, reference);
+            return put(numbers, tags, p, k, v);
         }
-        return Corners {
-            count: 0,
-            first: v2,
-            second: v2,
-        };
+        return k;
     }
     if d1 > 0.0 {
         if d2 <= 0.0 {
-            return Corners {
-                count: 2,
-                first: entering(v1, d1, v2, d2, edge, reference),
-                second: v2,
-            };
+            let v = entering(v1, d1, v2, d2, edge, reference);
+            let m = put(numbers, tags, p, k, v);
+            return put(numbers, tags, p, m, v2);
         }
     }
-    Corners {
-        count: 0,
-        first: v2,
-        second: v2,
-    }
+    k
 }
 
-// The cut of a polygon by a plane that stands on half-edge `edge` of the reference face.
-pub fn clip_polygon(polygon: Polygon, plane: Plane, edge: u8, reference: Plane) -> Clipped
-    requires { ⌜ (0 < polygon .count) × (polygon .count ≤ 64) ⌝ }
-    ensures { λ r. ⌜ r ≡ clippedOf (cutOf plane edge reference (cornersOf polygon)) ⌝ }
+// The cut of the polygon of n corners from corner p on, by a plane that stands on half-edge `edge` of the reference face. What it leaves stands from corner q on; the
+// return says how many corners that is, and those past the 64th are not kept.
+pub fn clip_polygon(
+    numbers: &mut [f32],
+    tags: &mut [u8],
+    p: usize,
+    n: usize,
+    plane: Plane,
+    edge: u8,
+    reference: Plane,
+    q: usize,
+) -> usize
+    requires { ⌜ Roomy (now numbers) (now tags) × SideBySide p q × (0 < n) × (n ≤ 64) ⌝ }
+    ensures { λ r. ⌜ Laid (now (numbers .entry)) (now (tags .entry)) q 0 (cutOf plane edge reference (cornersIn (now (numbers .entry)) (now (tags .entry)) p n)) (now (numbers .exit)) (now (tags .exit)) r ⌝ }
 {
-    let n = polygon.count;
-    let zero = manifold::records::zero_vertex();
-    let mut out = [zero; 64];
-    let mut v1 = polygon.vertices[n - 1];
+    let mut v1 = corner_at(numbers, tags, p + (n - 1));
     let mut d1 = plane_separation(plane, v1.position);
     let mut k = 0;
     let mut i = 0;
     while i < n {
-        let v2 = polygon.vertices[i];
+        let v2 = corner_at(numbers, tags, p + i);
         let d2 = plane_separation(plane, v2.position);
-        let corners = put_out(v1, d1, v2, d2, edge, reference);
-        let m = k + corners.count;
-        let room = min_int(m, 64);
-        if k < room {
-            let first = corners.first;
-            out[k] = first;
-        }
-        if k + 1 < room {
-            let second = corners.second;
-            out[k + 1] = second;
-        }
-        k = m;
+        k = put_out(numbers, tags, q, k, v1, d1, v2, d2, edge, reference);
         v1 = v2;
         d1 = d2;
         i += 1;
     }
-    let count = min_int(k, 64);
-    let cut = Polygon {
-        vertices: out,
-        count,
-    };
-    Clipped {
-        polygon: cut,
-        full: 64 < k,
-    }
+    k
 }

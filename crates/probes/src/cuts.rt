@@ -5,6 +5,7 @@ ghost use Prim.Native.Nat.{_*_, _≤_, _<_};
 ghost use Rattle.manifold.specs.Polygons.{cornersOf, polygonOf};
 ghost use Rattle.hull.specs.Accepted.{Accepted};
 ghost use Rattle.cut.specs.Cut.{cutOf};
+ghost use Rattle.cut.specs.Places.{Roomy, SideBySide, cornersIn, Laid};
 ghost use Rattle.cut.specs.Results.{clippedOf};
 ghost use Rattle.scores.specs.Images.{imageOf, leastSeparationOf, touchingOf};
 ghost use Rattle.reduce.specs.Reduce.{contactOf, pointsOf};
@@ -20,45 +21,19 @@ use vector::Vec3;
 
 #[no_mangle]
 pub extern "C" fn probe_clip_polygon(
-    polygon: Polygon,
+    numbers: &mut [f32],
+    tags: &mut [u8],
+    p: usize,
+    n: usize,
     plane: Plane,
     edge: u8,
     reference: Plane,
-) -> Clipped
-    requires { ⌜ (0 < polygon .count) × (polygon .count ≤ 64) ⌝ }
-    ensures { λ r. ⌜ r ≡ clippedOf (cutOf plane edge reference (cornersOf polygon)) ⌝ }
-{
-    cut::clip_polygon(polygon, plane, edge, reference)
-}
-
-// So many cuts of one polygon, and how many corners they leave together: what a cut costs inside the routine, with no polygon handed over by the caller.
-#[no_mangle]
-pub extern "C" fn probe_clip_rounds(
-    polygon: Polygon,
-    plane: Plane,
-    edge: u8,
-    reference: Plane,
-    rounds: usize,
+    q: usize,
 ) -> usize
-    requires { ⌜ (0 < polygon .count) × (polygon .count ≤ 64) × (rounds ≤ 65536) ⌝ }
-    ensures { λ r. ⌜ r ≡ rounds * clippedOf (cutOf plane edge reference (cornersOf polygon)) .polygon .count ⌝ }
+    requires { ⌜ Roomy (now numbers) (now tags) × SideBySide p q × (0 < n) × (n ≤ 64) ⌝ }
+    ensures { λ r. ⌜ Laid (now (numbers .entry)) (now (tags .entry)) q 0 (cutOf plane edge reference (cornersIn (now (numbers .entry)) (now (tags .entry)) p n)) (now (numbers .exit)) (now (tags .exit)) r ⌝ }
 {
-    let mut total = 0;
-    let mut i = 0;
-    while i < rounds {
-        let clipped = cut::clip_polygon(polygon, plane, edge, reference);
-        total += left_by(clipped);
-        i += 1;
-    }
-    total
-}
-
-// How many corners a cut leaves.
-fn left_by(clipped: Clipped) -> usize
-    ensures { λ r. ⌜ r ≡ clipped .polygon .count ⌝ }
-{
-    let polygon = clipped.polygon;
-    polygon.count
+    cut::clip_polygon(numbers, tags, p, n, plane, edge, reference, q)
 }
 
 #[no_mangle]
@@ -139,11 +114,22 @@ pub extern "C" fn probe_build_polygon(
     transform: Transform,
     face: usize,
     reference: Plane,
-) -> Polygon
-    requires { ⌜ Accepted size (now numbers) (now links) × (face < size .faces) ⌝ }
-    ensures { λ r. ⌜ r ≡ polygonOf (builtOf size (now (numbers .entry)) (now (links .entry)) transform reference face) ⌝ }
+    places: &mut [f32],
+    tags: &mut [u8],
+) -> usize
+    requires { ⌜ Accepted size (now numbers) (now links) × (face < size .faces) × Roomy (now places) (now tags) ⌝ }
+    ensures { λ r. ⌜ Laid (now (places .entry)) (now (tags .entry)) 0 0 (builtOf size (now (numbers .entry)) (now (links .entry)) transform reference face) (now (places .exit)) (now (tags .exit)) r ⌝ }
 {
-    clip::build_polygon(numbers, links, size, transform, face, reference)
+    clip::build_polygon(
+        numbers,
+        links,
+        size,
+        transform,
+        face,
+        reference,
+        places,
+        tags,
+    )
 }
 
 #[no_mangle]

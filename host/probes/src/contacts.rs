@@ -1,6 +1,6 @@
 //! The cuts of a polygon, the picks of at most four points, and the candidates of a face contact.
 
-use super::{first_broken_rule, FeaturePair, HullSize, Plane, Transform, Vec3};
+use super::{first_broken_rule, FeaturePair, HullSize, Places, Plane, Transform, Vec3};
 
 /// The most corners of a polygon, and the most points of a contact.
 pub const MAX_CLIP_POINTS: usize = 64;
@@ -48,22 +48,21 @@ pub struct Contact {
     pub count: u8,
 }
 
-mod linked {
+pub(super) mod linked {
     use super::*;
 
     extern "C" {
         pub fn probe_clip_polygon(
-            polygon: Polygon,
+            numbers: *mut f32,
+            numbers_len: usize,
+            tags: *mut u8,
+            tags_len: usize,
+            p: usize,
+            n: usize,
             plane: Plane,
             edge: u8,
             reference: Plane,
-        ) -> Clipped;
-        pub fn probe_clip_rounds(
-            polygon: Polygon,
-            plane: Plane,
-            edge: u8,
-            reference: Plane,
-            rounds: usize,
+            q: usize,
         ) -> usize;
         pub fn probe_images(candidates: Polygon, normal: Vec3) -> Polygon;
         pub fn probe_least_separation(candidates: Polygon) -> f32;
@@ -97,7 +96,11 @@ mod linked {
             transform: Transform,
             face: usize,
             reference: Plane,
-        ) -> Polygon;
+            places: *mut f32,
+            places_len: usize,
+            tags: *mut u8,
+            tags_len: usize,
+        ) -> usize;
         pub fn probe_candidates(
             numbers_a: *const f32,
             numbers_a_len: usize,
@@ -116,24 +119,27 @@ mod linked {
     }
 }
 
+impl ClipVertex {
+    pub const ZERO: ClipVertex = ClipVertex {
+        position: Vec3 {
+            x: 0.0,
+            y: 0.0,
+            z: 0.0,
+        },
+        separation: 0.0,
+        pair: FeaturePair {
+            owner1: 0,
+            index1: 0,
+            owner2: 0,
+            index2: 0,
+        },
+    };
+}
+
 impl Polygon {
     /// These corners in their order. Panics where there are more than 64.
     pub fn new(corners: &[ClipVertex]) -> Polygon {
-        let zero = ClipVertex {
-            position: Vec3 {
-                x: 0.0,
-                y: 0.0,
-                z: 0.0,
-            },
-            separation: 0.0,
-            pair: FeaturePair {
-                owner1: 0,
-                index1: 0,
-                owner2: 0,
-                index2: 0,
-            },
-        };
-        let mut vertices = [zero; MAX_CLIP_POINTS];
+        let mut vertices = [ClipVertex::ZERO; MAX_CLIP_POINTS];
         vertices[..corners.len()].copy_from_slice(corners);
         Polygon {
             vertices,
@@ -167,27 +173,14 @@ impl<'a> Accepted<'a> {
     }
 }
 
-/// Panics where the polygon has no corner or more than 64.
-#[inline]
+/// One cut in lists of its own. Panics where the polygon has no corner or more than 64.
 pub fn clip_polygon(polygon: &Polygon, plane: Plane, edge: u8, reference: Plane) -> Clipped {
-    assert!(0 < polygon.count && polygon.count <= MAX_CLIP_POINTS);
-    unsafe { linked::probe_clip_polygon(*polygon, plane, edge, reference) }
-}
-
-/// The most rounds of one call.
-pub const MOST_ROUNDS: usize = 65536;
-
-/// So many cuts inside the library, and how many corners they leave together. Panics where the polygon has no corner or
-/// more than 64, or there are too many rounds.
-pub fn clip_rounds(
-    polygon: &Polygon,
-    plane: Plane,
-    edge: u8,
-    reference: Plane,
-    rounds: usize,
-) -> usize {
-    assert!(0 < polygon.count && polygon.count <= MAX_CLIP_POINTS && rounds <= MOST_ROUNDS);
-    unsafe { linked::probe_clip_rounds(*polygon, plane, edge, reference, rounds) }
+    let mut places = Places::new(polygon);
+    let count = places.clip_polygon(polygon.count, plane, edge, reference);
+    Clipped {
+        polygon: places.polygon(MAX_CLIP_POINTS, count.min(MAX_CLIP_POINTS)),
+        full: count > MAX_CLIP_POINTS,
+    }
 }
 
 /// Panics where there are more than 64 candidates.
@@ -213,6 +206,9 @@ pub fn reduce_manifold_points(points: &Polygon, normal: Vec3, direction: Vec3) -
     unsafe { linked::probe_reduce_manifold_points(*points, normal, direction) }
 }
 
+/// The most rounds of one call.
+pub const MOST_ROUNDS: usize = 65536;
+
 /// So many reductions inside the library, and how many points they leave together. Panics where there are more than 64
 /// candidates or too many rounds.
 pub fn reduce_rounds(points: &Polygon, normal: Vec3, direction: Vec3, rounds: usize) -> usize {
@@ -236,26 +232,16 @@ pub fn find_incident_face(hull: Accepted, normal: Vec3, vertex: usize) -> usize 
     }
 }
 
-/// Panics where the hull has no such face.
+/// A face in lists of its own. Panics where the hull has no such face.
 pub fn build_polygon(
     hull: Accepted,
     transform: Transform,
     face: usize,
     reference: Plane,
 ) -> Polygon {
-    assert!(face < hull.size.faces);
-    unsafe {
-        linked::probe_build_polygon(
-            hull.numbers.as_ptr(),
-            hull.numbers.len(),
-            hull.links.as_ptr(),
-            hull.links.len(),
-            hull.size,
-            transform,
-            face,
-            reference,
-        )
-    }
+    let mut places = Places::default();
+    let count = places.build_polygon(hull, transform, face, reference);
+    places.polygon(0, count)
 }
 
 /// Panics where A has no such face or B no such vertex.

@@ -4,9 +4,11 @@
 
 mod axes;
 mod contacts;
+mod places;
 
 pub use axes::*;
 pub use contacts::*;
+pub use places::*;
 
 /// Three numbers.
 #[derive(Debug, Clone, Copy)]

@@ -1,39 +1,37 @@
-//! Cuts, reductions and the candidates of a face contact beside the Rust text. Cuts and reductions are timed inside the
-//! library, round after round on one input, as the routine itself calls them, and once more with the polygon handed
-//! over and back by value; the text's side is a call through a door that is not inlined. How many corners or points come
-//! out is the same on both sides.
+//! Cuts, reductions and the candidates of a face contact beside the Rust text. A cut is lent its lists. Reductions are
+//! timed inside the library, round after round on one input, as the routine itself calls them, and once more with the
+//! polygon handed over by value; the text's side is a call through a door that is not inlined. How many corners or points
+//! come out is the same on both sides.
 
 use super::{head, line, timed};
 use oracle::hull::HullData;
 use oracle::math_functions::{self as reading, arbitrary_perp, dot};
 use oracle::open::{search, Buffers, LocalManifoldPoint, Prepared};
 use oracle::transcribed::FaceCuts;
-use probes::{Accepted, ClipVertex, FeaturePair, Plane, Polygon, Quat, Transform, Vec3};
+use probes::{Accepted, ClipVertex, FeaturePair, Places, Plane, Polygon, Quat, Transform, Vec3};
 use runs::convert;
 use runs::inputs::rounded;
 use runs::shapes::solids::{block, frame, frustum, polygon};
 use runs::shapes::Shape;
 use runs::Numbers;
+use std::cell::RefCell;
 use std::f64::consts::TAU;
 
 /// So many inputs in turn stay in the nearest cache.
 const INPUTS: usize = 12;
 
-/// So many calls inside the library for each that goes into it.
+/// So many calls on an input before the next.
 const ROUNDS: usize = 32;
 
 /// The half-edge that cuts.
 const EDGE: u8 = 9;
 
 pub fn run(numbers: &mut Numbers) {
-    let rounds = [(ROUNDS, "inside"), (1, "by value")];
-    for (rounds, how) in rounds {
-        head(&format!("a cut, {how}"), "Rust text");
-        for corners in [4, 6, 8, 12, 16, 32] {
-            cuts(corners, rounds, numbers);
-        }
+    head("a cut", "Rust text");
+    for corners in [4, 6, 8, 12, 16, 32] {
+        cuts(corners, numbers);
     }
-    for (rounds, how) in rounds {
+    for (rounds, how) in [(ROUNDS, "inside"), (1, "by value")] {
         head(&format!("a reduction, {how}"), "Rust text");
         for candidates in [5, 8, 16, 32, 60] {
             reductions(candidates, rounds, numbers);
@@ -101,14 +99,14 @@ fn round(size: usize, n: &mut Numbers) -> (Vec<ClipVertex>, Plane) {
 }
 
 struct Cut {
-    polygon: Polygon,
+    places: RefCell<Places>,
     prepared: Prepared,
     plane: Plane,
     reference: Plane,
 }
 
 /// A third of the planes go through the middle, a third take one corner off, a third keep all.
-fn cuts(size: usize, rounds: usize, n: &mut Numbers) {
+fn cuts(size: usize, n: &mut Numbers) {
     let inputs: Vec<Cut> = (0..INPUTS)
         .map(|i| {
             let (corners, reference) = round(size, n);
@@ -119,7 +117,7 @@ fn cuts(size: usize, rounds: usize, n: &mut Numbers) {
             heights.sort_by(f32::total_cmp);
             let (high, second) = (heights[size - 1], heights[size - 2]);
             Cut {
-                polygon: Polygon::new(&corners),
+                places: RefCell::new(Places::new(&Polygon::new(&corners))),
                 prepared: Prepared::new(&convert::corners(&corners)),
                 plane: Plane {
                     normal: outward,
@@ -132,19 +130,17 @@ fn cuts(size: usize, rounds: usize, n: &mut Numbers) {
     let mut buffers = Buffers::default();
     both(
         &format!("{size} corners"),
-        rounds,
+        ROUNDS,
         &inputs,
-        |c| match rounds {
-            1 => {
-                let left = probes::clip_polygon(&c.polygon, c.plane, EDGE, c.reference);
-                left.polygon.count
-            }
-            _ => probes::clip_rounds(&c.polygon, c.plane, EDGE, c.reference, rounds),
+        |c| {
+            let mut places = c.places.borrow_mut();
+            let mut cut = || places.clip_polygon(size, c.plane, EDGE, c.reference);
+            (0..ROUNDS).map(|_| cut()).sum()
         },
         |c| {
             let (plane, reference) = (convert::plane(c.plane), convert::plane(c.reference));
             let mut cut = || buffers.clip_polygon(&c.prepared, plane, EDGE.into(), reference);
-            (0..rounds).map(|_| cut()).sum()
+            (0..ROUNDS).map(|_| cut()).sum()
         },
     );
 }
