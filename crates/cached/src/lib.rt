@@ -142,11 +142,11 @@ pub fn cached_face_b(
     let plane = hull::plane_at(numbers_b, size_b, cache.index_b as usize);
     let direction = neg(rotation::rotate_vector(transform.q, plane.normal));
     let vertex = hull::support_vertex(numbers_a, size_a, direction);
-    let support = rotation::inv_transform_point(
+    let corner = rotation::inv_transform_point(
         transform,
         hull::vertex_at(numbers_a, size_a, vertex),
     );
-    if plane_separation(plane, support) >= speculative_distance() {
+    if plane_separation(plane, corner) >= speculative_distance() {
         return hit_with(empty_contact());
     }
     let built = build_face_b_contact(

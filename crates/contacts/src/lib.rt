@@ -36,19 +36,14 @@ fn touched(contact: Contact, separation: f32, kind: u8, index_a: u8, index_b: u8
     }
 }
 
+// They do not touch.
 pub fn missed() -> Built
     ensures { λ r. ⌜ r ≡ missed ⌝ }
 {
-    let contact = empty_contact();
-    let cache = empty_cache();
-    Built {
-        status: 0,
-        touching: false,
-        contact,
-        cache,
-    }
+    refused_at(0)
 }
 
+// A refusal that the work met, or 0 for none.
 pub fn refused_at(status: u8) -> Built
     ensures { λ r. ⌜ r ≡ refusedAt status ⌝ }
 {

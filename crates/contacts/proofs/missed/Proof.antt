@@ -1,16 +1,13 @@
--- `missed`: nothing touches, so contact and cache are empty.
+-- `missed`: refusal 0 is none.
 use borrow.Author.Needs.{needs}
 use Rattle.contacts.proofs.missed.Statement.{statement}
 use Rattle.contacts.proofs.missed.Tie as tie
 
-empty-contact-requires : tie.Need-empty-contact-requires
-empty-contact-requires c κs = search needs
-
-empty-cache-requires : tie.Need-empty-cache-requires
-empty-cache-requires c κs = search needs
+refused-at-requires : tie.Need-refused-at-requires
+refused-at-requires c κs = search needs
 
 returns : tie.Need-returns
-returns c = simp (c .empty-cache .ensures, c .before .empty-contact .ensures)
+returns c = c .refused-at .ensures
 
 pub missed-spec : {M : Type 1} → statement M
-missed-spec = tie.close (tie.spec empty-contact-requires empty-cache-requires returns)
+missed-spec = tie.close (tie.spec refused-at-requires returns)
