@@ -1,5 +1,5 @@
-//! A part of the text that stands inside one of its functions and so has no door: the cuts of `build_face_a_contact`
-//! in hulls.rs, transcribed line by line over the text's own functions.
+//! Parts of hulls.rs that stand inside its functions and so have no door, transcribed line by line over the text's own
+//! functions: here the cuts of `build_face_a_contact`, in `again` the cached axis of `collide_hulls`.
 
 use crate::hull::{get_hull_edges, get_hull_faces, get_hull_planes, get_hull_points, HullData};
 use crate::manifold::clip::{build_polygon, clip_polygon, find_incident_face};
@@ -8,6 +8,10 @@ use crate::math_functions::{
     cross, inv_rotate_vector, make_plane_from_normal_and_point, normalize, sub, Transform,
 };
 use crate::open;
+
+pub use again::{again, Again, Crossing, End};
+
+mod again;
 
 /// The text's two buffers. It has them with 64 places; with 128 no cut fills one, and what a full cut puts out can be
 /// read.

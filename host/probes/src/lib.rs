@@ -3,10 +3,12 @@
 //! tested here.
 
 mod axes;
+mod calls;
 mod contacts;
 mod places;
 
 pub use axes::*;
+pub use calls::*;
 pub use contacts::*;
 pub use places::*;
 

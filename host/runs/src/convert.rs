@@ -59,7 +59,7 @@ mod text {
     use crate::shapes::Shape;
     use oracle::hull::HullData;
     use oracle::open;
-    use probes::{ClipVertex, FeaturePair};
+    use probes::{ClipVertex, FeaturePair, Lent, Point, SatCache};
 
     fn pair(p: FeaturePair) -> open::FeaturePair {
         open::FeaturePair {
@@ -117,11 +117,34 @@ mod text {
             .collect()
     }
 
+    pub fn our_contact_point(v: &open::LocalManifoldPoint) -> Point {
+        Point {
+            position: ours(v.point),
+            separation: v.separation,
+            pair: our_pair(v.pair),
+        }
+    }
+
+    pub fn cache(c: SatCache) -> open::SatCache {
+        open::SatCache {
+            separation: f32::from_bits(c.separation),
+            type_: c.kind,
+            index_a: c.index_a,
+            index_b: c.index_b,
+            hit: c.hit,
+        }
+    }
+
     pub fn hull(shape: &Shape) -> HullData {
-        let size = shape.size;
+        lent(crate::pairs::lent(shape))
+    }
+
+    /// Panics where the lists do not fit the sizes.
+    pub fn lent(hull: Lent) -> HullData {
+        let size = hull.size;
         oracle::hull(
-            &shape.numbers,
-            &shape.links,
+            hull.numbers,
+            hull.links,
             size.vertices,
             size.half_edges,
             size.faces,

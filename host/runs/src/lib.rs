@@ -1,6 +1,7 @@
-//! What the runs share: numbers from a seed, vectors, transforms and hulls of every sort, pairs of them, the
-//! comparison of two floats, and the count of what was compared and met.
+//! What the runs share: numbers from a seed, vectors, transforms and hulls of every sort, pairs of them, calls and
+//! their answers, the comparison of two floats, and the count of what was compared and met.
 
+pub mod calls;
 pub mod convert;
 pub mod inputs;
 pub mod pairs;
@@ -8,6 +9,7 @@ pub mod pairs;
 pub mod searches;
 pub mod settled;
 pub mod shapes;
+pub mod sorts;
 
 /// Numbers that depend on the seed alone (SplitMix64).
 pub struct Numbers(u64);
@@ -98,7 +100,8 @@ pub const SPECIAL: [f32; 22] = [
     100000.0,
 ];
 
-/// Document 01's speculative distance.
+/// Document 01's slop and speculative distance.
+pub const SLOP: f32 = f32::from_bits(0x3ba3_d70a);
 pub const SPECULATIVE: f32 = f32::from_bits(0x3ca3_d70a);
 
 /// Equal bit for bit, any NaN being equal to any other.

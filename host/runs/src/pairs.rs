@@ -1,11 +1,11 @@
 //! Pairs of hulls about each other's surfaces.
 
 use crate::shapes::kinds::COMPACT;
-use crate::shapes::solids::{block, pyramid, two_sided, Solid};
+use crate::shapes::solids::{block, frame, pyramid, two_sided, Solid};
 use crate::shapes::{Link, Shape};
 use crate::{convert, inputs, Numbers};
 use oracle::math_functions::*;
-use probes::Accepted;
+use probes::{Accepted, Lent};
 use std::f32::consts::TAU;
 
 #[derive(Debug)]
@@ -18,6 +18,15 @@ pub struct Pair {
 /// The shape as the library has accepted it.
 pub fn accepted(shape: &Shape) -> Accepted<'_> {
     Accepted::new(&shape.numbers, &shape.links, shape.size).expect("the hull is good")
+}
+
+/// The shape as it is lent.
+pub fn lent(shape: &Shape) -> Lent<'_> {
+    Lent {
+        numbers: &shape.numbers,
+        links: &shape.links,
+        size: shape.size,
+    }
 }
 
 /// A polygon of 65 to 122 corners with both its sides, beside a tetrahedron.
@@ -180,5 +189,14 @@ pub fn after(q: Quat, r: Quat) -> Quat {
     Quat {
         v: add(across, mul_sv(r.s, q.v)),
         s: q.s * r.s - dot(q.v, r.v),
+    }
+}
+
+/// Moved and turned by at most so much.
+pub fn moved(t: Transform, by: f32, n: &mut Numbers) -> Transform {
+    let [way, axis, _] = frame(n).map(|v| convert::vector(inputs::rounded(v)));
+    Transform {
+        p: mul_add(t.p, by * n.fraction(), way),
+        q: after(spin(axis, by * n.fraction()), t.q),
     }
 }

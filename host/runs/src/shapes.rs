@@ -5,6 +5,7 @@ use probes::HullSize;
 use solids::Solid;
 use std::collections::HashMap;
 
+pub mod breaks;
 pub mod kinds;
 pub mod solids;
 

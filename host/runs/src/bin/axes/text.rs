@@ -1,16 +1,11 @@
 //! What is held to the Rust text itself.
 
-use oracle::math_functions::Transform;
 use oracle::open::{search, AxisQuery, SeparatingFeature};
 use probes::{Placed, WANT_FACE_A, WANT_FACE_B, WANT_NO_FACE};
 use runs::pairs::{accepted, Pair};
 use runs::searches::{answer, same_answers};
+use runs::sorts::{acceptable, SORTS};
 use runs::{convert, met, one_in, Numbers, Tally};
-use sorts::SORTS;
-
-mod edits;
-mod places;
-mod sorts;
 
 #[derive(Default)]
 struct Met {
@@ -49,17 +44,6 @@ pub fn run(n: &mut Numbers, count: usize) -> bool {
         ("a tie of the two", m.tie, least),
         ("an edge pair above both", m.edge_above, often),
     ])
-}
-
-/// Made anew until the transform is an accepted one.
-fn acceptable(make: fn(&mut Numbers) -> Pair, n: &mut Numbers) -> Pair {
-    loop {
-        let pair = make(n);
-        let Transform { p, q } = pair.transform;
-        if validator::transform_accepted([p.x, p.y, p.z], [q.v.x, q.v.y, q.v.z, q.s]) {
-            return pair;
-        }
-    }
 }
 
 /// One pair of hulls, with the early stop and without.

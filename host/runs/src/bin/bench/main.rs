@@ -10,6 +10,8 @@ use std::time::Instant;
 #[cfg(rust_text)]
 mod axes;
 #[cfg(rust_text)]
+mod calls;
+#[cfg(rust_text)]
 mod cuts;
 mod roots;
 mod validators;
@@ -26,10 +28,11 @@ fn main() {
     {
         cuts::run(&mut numbers);
         axes::run(&mut numbers);
+        calls::run(&mut numbers);
     }
     #[cfg(not(rust_text))]
     println!(
-        "left out, since the Rust text is not at hand: cuts, reductions, candidates, searches"
+        "left out, since the Rust text is not at hand: cuts, reductions, candidates, searches, calls"
     );
 }
 
@@ -41,19 +44,30 @@ fn line(what: &str, ours: impl FnMut() -> f64, theirs: impl FnMut() -> f64) {
     line_of(BATCHES, what, ours, theirs);
 }
 
-/// The two sides take turns, so that both meet the machine as it is at the time.
 fn line_of(
     batches: usize,
     what: &str,
     mut ours: impl FnMut() -> f64,
     mut theirs: impl FnMut() -> f64,
 ) {
-    let (mut a, mut b) = (f64::MAX, f64::MAX);
+    let [a, b] = least_of(batches, [&mut ours, &mut theirs]);
+    row(what, a, b);
+}
+
+fn row(what: &str, ours: f64, theirs: f64) {
+    let ratio = ours / theirs;
+    println!("  {what:<32} {ours:>7.2}  {theirs:>10.2}  {ratio:>5.2}");
+}
+
+/// The least of each. They take turns, so that all meet the machine as it is at the time.
+fn least_of<const N: usize>(batches: usize, mut timed: [&mut dyn FnMut() -> f64; N]) -> [f64; N] {
+    let mut least = [f64::MAX; N];
     for _ in 0..batches {
-        a = a.min(ours());
-        b = b.min(theirs());
+        for (least, timed) in least.iter_mut().zip(&mut timed) {
+            *least = least.min(timed());
+        }
     }
-    println!("  {what:<32} {a:>7.2}  {b:>10.2}  {:>5.2}", a / b);
+    least
 }
 
 /// Nanoseconds a call on these inputs in turn, and the sum of the answers.

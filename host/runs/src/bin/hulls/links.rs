@@ -1,8 +1,8 @@
 //! Hulls with damaged links: every byte in turn, the known traps, and maps that are wholly made up.
 
-use super::breaks::{walks, Break};
 use super::{any_shape, Total};
 use probes::HullSize;
+use runs::shapes::breaks::{walks, Break};
 use runs::shapes::kinds::COMPACT;
 use runs::shapes::{Link, Padding, Shape};
 use runs::Numbers;

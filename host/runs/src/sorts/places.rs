@@ -1,11 +1,11 @@
 //! Where B lies beside A.
 
+use crate::inputs::{self, rounded};
+use crate::pairs::{after, normal, spin, turning, vertex, Pair};
+use crate::shapes::solids::frame;
+use crate::shapes::{Link, Shape};
+use crate::{convert, Numbers};
 use oracle::math_functions::*;
-use runs::inputs::{self, rounded};
-use runs::pairs::{after, normal, spin, turning, vertex, Pair};
-use runs::shapes::solids::frame;
-use runs::shapes::{Link, Shape};
-use runs::{convert, Numbers};
 use std::f32::consts::{FRAC_1_SQRT_2, TAU};
 
 /// How an edge crosses an edge.

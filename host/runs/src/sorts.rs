@@ -1,21 +1,35 @@
-//! The sorts of pairs that are searched.
+//! The sorts of pairs that the searches and the calls are held to the text on.
 
-use super::edits::{edge_at_tolerance, faces_at, loose_box, tilted};
-use super::places::{
+use crate::inputs::{self, rounded};
+use crate::pairs::{placed, turned_or_not, Pair};
+use crate::settled::Stack;
+use crate::shapes::kinds::{any_log, COMPACT, STRETCHED};
+use crate::shapes::solids::*;
+use crate::shapes::{Padding, Shape};
+use crate::{convert, Numbers, SPECULATIVE};
+use edits::{edge_at_tolerance, faces_at, loose_box, tilted};
+use oracle::math_functions::{neg, rotate_vector, sub, Quat, Transform, Vec3, VEC3_ZERO};
+use places::{
     about_origin, any_edges, anyhow, arm, edge_on_edge, facing_edge, near_tolerance, quarter_turn,
     stretched_turn, towards, Spin,
 };
-use oracle::math_functions::{neg, rotate_vector, sub, Quat, Transform, Vec3, VEC3_ZERO};
-use runs::inputs::rounded;
-use runs::pairs::{placed, turned_or_not, Pair};
-use runs::settled::Stack;
-use runs::shapes::kinds::{any_log, COMPACT, STRETCHED};
-use runs::shapes::solids::*;
-use runs::shapes::{Padding, Shape};
-use runs::{convert, Numbers, SPECULATIVE};
+
+pub mod edits;
+pub mod places;
 
 /// A name and a maker.
 pub type Sort = (&'static str, fn(&mut Numbers) -> Pair);
+
+/// Made anew until the transform is an accepted one.
+pub fn acceptable(make: fn(&mut Numbers) -> Pair, n: &mut Numbers) -> Pair {
+    loop {
+        let pair = make(n);
+        let Transform { p, q } = pair.transform;
+        if validator::transform_accepted([p.x, p.y, p.z], [q.v.x, q.v.y, q.v.z, q.s]) {
+            return pair;
+        }
+    }
+}
 
 pub const SORTS: [Sort; 13] = [
     ("of every kind, laid or set on each other", |n| {
@@ -226,7 +240,7 @@ fn far_away(n: &mut Numbers) -> Pair {
 }
 
 /// With lanes past the last vertex that lie outside the hull: one point in all of them, zeros, or anything.
-fn padded(n: &mut Numbers) -> Shape {
+pub fn padded(n: &mut Numbers) -> Shape {
     let solid = match n.below(4) {
         0 => frustum(&polygon(3 + 2 * n.below(4), 1.0), 1.0, 2.0),
         1 => pyramid(4 + n.below(9), 1.0, 1.0),
@@ -258,7 +272,7 @@ fn in_large_boxes(n: &mut Numbers) -> Pair {
     let corner = convert::vector(rounded(corner));
     let q = match n.below(2) {
         0 => quarter_turn(n),
-        _ => convert::rotation(runs::inputs::rotation(n)),
+        _ => convert::rotation(inputs::rotation(n)),
     };
     if n.below(2) == 0 {
         let there = rotate_vector(q, corner);

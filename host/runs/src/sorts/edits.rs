@@ -1,9 +1,9 @@
 //! Hulls with planes and boxes that the rules allow and no builder makes.
 
+use crate::pairs::normal;
+use crate::shapes::Shape;
+use crate::Numbers;
 use oracle::math_functions::{add, dot, length_squared, mul_add, mul_sub, normalize, Vec3};
-use runs::pairs::normal;
-use runs::shapes::Shape;
-use runs::Numbers;
 
 /// The text's `EPS` without its sign: the product of two heights from which they count as on two sides.
 const EPS: f32 = 0.0001;

@@ -1,8 +1,8 @@
 //! The breaks of H5, H6 and H7: walks that never come back, that are too short, or that miss a half-edge.
 
 use super::{any_edge, end, other, rename};
-use runs::shapes::{Link, Shape};
-use runs::Numbers;
+use crate::shapes::{Link, Shape};
+use crate::Numbers;
 
 /// Two rings that meet at a vertex get one face, and the first is led into the second, from which it does not come back.
 pub fn chain_across_rings(shape: &mut Shape, n: &mut Numbers) -> bool {

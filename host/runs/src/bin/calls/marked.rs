@@ -1,0 +1,105 @@
+//! Document 01's runs of a call: two cubes of half-size 1, and a 64-gon that loses one corner.
+
+use probes::{collide, Answer, Quat, SatCache, Transform, Vec3};
+use runs::calls::{empty, same_answers, NO_CACHE};
+use runs::pairs::lent;
+use runs::shapes::solids::{block, pyramid};
+use runs::shapes::Shape;
+use runs::Tally;
+
+/// The face of a block that looks along z.
+const TOP: u8 = 5;
+
+/// Not turned.
+fn at([x, y, z]: [f32; 3]) -> Transform {
+    let zero = Vec3 {
+        x: 0.0,
+        y: 0.0,
+        z: 0.0,
+    };
+    Transform {
+        p: Vec3 { x, y, z },
+        q: Quat { v: zero, s: 1.0 },
+    }
+}
+
+pub fn rows() -> Tally {
+    let mut t = Tally::default();
+    cubes(&mut t);
+    for (sides, shift, status) in [(64, 0.003, 6), (64, 0.0, 0), (63, 0.003, 0)] {
+        on_a_block(&mut t, sides, shift, status);
+    }
+    t
+}
+
+/// Faces -x, +x first.
+fn cubes(t: &mut Tally) {
+    let cube = Shape::new(&block([1.0; 3]));
+    let call = |capacity, x, cache| {
+        let (a, b) = (lent(&cube), lent(&cube));
+        collide(capacity, a, b, at([x, 0.0, 0.0]), cache)
+    };
+    let mut row = |what: &str, answer: Answer, right: bool| {
+        t.compare(right, || format!("{what}: {answer:?}"));
+    };
+
+    let apart = call(4, 3.0, NO_CACHE);
+    let wanted = SatCache {
+        separation: 1f32.to_bits(),
+        kind: 2,
+        index_a: 1,
+        ..apart.cache
+    };
+    let right = wanted.hit == 0 && same_answers(&apart, &empty(0, wanted));
+    row("B at x = 3", apart, right);
+
+    let again = call(4, 3.0, apart.cache);
+    let wanted = SatCache {
+        hit: 1,
+        ..apart.cache
+    };
+    let right = same_answers(&again, &empty(0, wanted));
+    row("B at x = 3 again", again, right);
+
+    let touching = call(4, 2.0, NO_CACHE);
+    let contact = touching.outcome.contact;
+    let right = (touching.outcome.status, contact.count) == (0, 4)
+        && contact.points.iter().all(|point| point.separation == 0.0)
+        && (touching.cache.kind, touching.cache.separation) == (3, 0);
+    row("B at x = 2", touching, right);
+
+    let small = call(3, 2.0, touching.cache);
+    let right = same_answers(&small, &empty(0, touching.cache));
+    row("capacity 3", small, right);
+}
+
+/// A face of so many corners on a block, shifted so that one corner goes over the block's edge or none does. The
+/// block's face is the reference face: by a cached face and by a manual search as A, by a full search too as B.
+fn on_a_block(t: &mut Tally, sides: usize, shift: f32, status: u8) {
+    let top = Shape::new(&block([1.0, 5.0, 1.0]));
+    let round = Shape::new(&pyramid(sides, 1.0, 1.0));
+    let mut row = |a: &Shape, b: &Shape, by: [f32; 3], kind: u8| {
+        let cache = SatCache {
+            kind,
+            index_a: TOP,
+            index_b: TOP,
+            hit: 9,
+            ..NO_CACHE
+        };
+        let answer = collide(4, lent(a), lent(b), at(by), cache);
+        let right = if status == 0 {
+            (answer.outcome.status, answer.outcome.contact.count) == (0, 4)
+        } else {
+            same_answers(&answer, &empty(status, cache))
+        };
+        t.compare(right, || {
+            format!("{sides}-gon shifted by {shift}, type {kind}: {answer:?}")
+        });
+    };
+    for kind in [2, 6] {
+        row(&top, &round, [shift, 0.0, 1.0], kind);
+    }
+    for kind in [0, 3, 7] {
+        row(&round, &top, [-shift, 0.0, -1.0], kind);
+    }
+}

@@ -1,0 +1,130 @@
+//! Refusals before any work, one rule broken or several, and capacities below 4, with which nothing is looked at.
+
+use super::caches;
+use probes::{HullSize, Lent, Quat, Transform, Vec3};
+use runs::calls::{empty, same_answers, Call};
+use runs::inputs::rotation;
+use runs::pairs::lent;
+use runs::shapes::breaks::break_rule;
+use runs::shapes::kinds::COMPACT;
+use runs::shapes::Shape;
+use runs::{met, one_in, Numbers, Tally};
+
+/// What is broken: hull A, hull B, the transform, the cache.
+type Broken = [bool; 4];
+
+pub fn run(n: &mut Numbers, count: usize) -> bool {
+    let (mut refused, mut small) = (Tally::default(), Tally::default());
+    let (mut alone, mut first) = ([0; 4], [0; 4]);
+    for _ in 0..count {
+        for set in 1..16 {
+            let broken: Broken = [0, 1, 2, 3].map(|bit| set >> bit & 1 == 1);
+            let place = broken.iter().take_while(|&&broken| !broken).count();
+            one(&mut refused, broken, place as u8 + 1, n);
+            let several = broken[place + 1..].contains(&true);
+            [&mut alone, &mut first][usize::from(several)][place] += 1;
+        }
+        capacity(&mut small, n);
+        capacity(&mut small, n);
+    }
+    let ([a, b, transform, cache], [first_a, first_b, first_transform, _]) = (alone, first);
+    let least = one_in(1, count);
+    refused.report("refusals before any work")
+        & met(&[
+            ("hull A alone broken", a, least),
+            ("hull B", b, least),
+            ("the transform", transform, least),
+            ("the cache", cache, least),
+            ("hull A and others", first_a, least),
+            ("hull B and others after it", first_b, least),
+            ("the transform and the cache", first_transform, least),
+        ])
+        & small.report("capacities below 4")
+}
+
+/// A good hull or one that breaks any rule.
+fn hull(broken: bool, n: &mut Numbers) -> Shape {
+    let solid = COMPACT[n.below(COMPACT.len())].1(n);
+    let mut shape = Shape::any(&solid, n);
+    if broken {
+        break_rule(1 + n.below(8) as u8, &mut shape, n);
+    }
+    shape
+}
+
+fn transform(broken: bool, n: &mut Numbers) -> Transform {
+    let mut part = || 4096.0 * n.fraction();
+    let (x, y, z) = (part(), part(), part());
+    let mut t = Transform {
+        p: Vec3 { x, y, z },
+        q: rotation(n),
+    };
+    if broken {
+        let Transform {
+            p,
+            q: Quat { v, s },
+        } = &mut t;
+        let parts = [
+            &mut p.x, &mut p.y, &mut p.z, &mut v.x, &mut v.y, &mut v.z, s,
+        ];
+        let part = parts.into_iter().nth(n.below(7)).expect("one of seven");
+        let beyond = [f32::NAN, f32::INFINITY, f32::MIN, 4096f32.next_up(), -5e3];
+        *part = beyond[n.below(beyond.len())];
+    }
+    t
+}
+
+/// One call with these broken, which is refused by this number.
+fn one(t: &mut Tally, [a, b, placing, cache]: Broken, number: u8, n: &mut Numbers) {
+    let (a, b) = (hull(a, n), hull(b, n));
+    let cache = if cache {
+        caches::out_of_range(a.size, b.size, n)
+    } else {
+        caches::in_range(a.size, b.size, n)
+    };
+    let call = Call {
+        capacity: [4, 5, 100, i32::MAX][n.below(4)],
+        a: lent(&a),
+        b: lent(&b),
+        transform: transform(placing, n),
+        cache,
+    };
+    let ours = call.ours();
+    let right = call.refusal() == number && same_answers(&ours, &empty(number, cache));
+    t.compare(right, || format!("refusal {number}: {ours:?}: {call:?}"));
+}
+
+/// One call with a capacity below 4 and anything else: hulls that are good or broken, or lists that are not there under
+/// sizes that no hull has.
+fn capacity(t: &mut Tally, n: &mut Numbers) {
+    let shapes = [0; 2].map(|_| hull(n.below(2) == 0, n));
+    let sizes = [0, 3, 4, 128, 1 << 40, 1 << 63, usize::MAX];
+    let mut lent_or_not = |shape| {
+        let mut any_size = || sizes[n.below(sizes.len())];
+        let size = HullSize {
+            vertices: any_size(),
+            half_edges: any_size(),
+            faces: any_size(),
+        };
+        let (numbers, links) = (&[], &[]);
+        let nothing = Lent {
+            numbers,
+            links,
+            size,
+        };
+        [lent(shape), nothing][n.below(2)]
+    };
+    let (a, b) = (lent_or_not(&shapes[0]), lent_or_not(&shapes[1]));
+    let below = [i32::MIN, i32::MIN + 1, -5, -4, -1, 0, 1, 2, 3];
+    let call = Call {
+        capacity: below[n.below(below.len())],
+        a,
+        b,
+        transform: transform(n.below(2) == 0, n),
+        cache: caches::any(n),
+    };
+    let ours = call.ours();
+    t.compare(same_answers(&ours, &empty(0, call.cache)), || {
+        format!("capacity below 4: {ours:?}: {call:?}")
+    });
+}

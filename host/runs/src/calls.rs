@@ -1,0 +1,133 @@
+//! What a call is given, the refusals of document 01 that come before any work, and the comparison of two answers.
+
+use crate::same;
+use probes::{
+    Answer, Contact, FeaturePair, HullSize, Lent, Outcome, Point, SatCache, Transform, Vec3,
+};
+
+#[cfg(rust_text)]
+pub use text::Work;
+
+#[cfg(rust_text)]
+mod text;
+
+const NO_VECTOR: Vec3 = Vec3 {
+    x: 0.0,
+    y: 0.0,
+    z: 0.0,
+};
+
+const NO_POINT: Point = Point {
+    position: NO_VECTOR,
+    separation: 0.0,
+    pair: FeaturePair {
+        owner1: 0,
+        index1: 0,
+        owner2: 0,
+        index2: 0,
+    },
+};
+
+const NO_CONTACT: Contact = Contact {
+    points: [NO_POINT; 4],
+    normal: NO_VECTOR,
+    count: 0,
+};
+
+/// Of type 0, as before the first call.
+pub const NO_CACHE: SatCache = SatCache {
+    separation: 0,
+    kind: 0,
+    index_a: 0,
+    index_b: 0,
+    hit: 0,
+};
+
+/// What a call is given.
+#[derive(Debug, Clone, Copy)]
+pub struct Call<'a> {
+    pub capacity: i32,
+    pub a: Lent<'a>,
+    pub b: Lent<'a>,
+    pub transform: Transform,
+    pub cache: SatCache,
+}
+
+impl Call<'_> {
+    /// The proved answer.
+    #[inline]
+    pub fn ours(&self) -> Answer {
+        probes::collide(self.capacity, self.a, self.b, self.transform, self.cache)
+    }
+
+    /// The first of refusals 1 to 4 that is given, 0 if none.
+    pub fn refusal(&self) -> u8 {
+        if !good(self.a) {
+            1
+        } else if !good(self.b) {
+            2
+        } else if !placed(self.transform) {
+            3
+        } else if !in_range(self.a.size, self.b.size, self.cache) {
+            4
+        } else {
+            0
+        }
+    }
+}
+
+fn good(hull: Lent) -> bool {
+    let HullSize {
+        vertices,
+        half_edges,
+        faces,
+    } = hull.size;
+    validator::first_broken_rule(hull.numbers, hull.links, vertices, half_edges, faces) == 0
+}
+
+fn placed(Transform { p, q }: Transform) -> bool {
+    validator::transform_accepted([p.x, p.y, p.z], [q.v.x, q.v.y, q.v.z, q.s])
+}
+
+/// Not where "the cache's type is 2 and index_a >= F of A; 3 and index_b >= F of B; 4 and either index is odd or not
+/// below its hull's H".
+fn in_range(a: HullSize, b: HullSize, cache: SatCache) -> bool {
+    let (index_a, index_b) = (usize::from(cache.index_a), usize::from(cache.index_b));
+    match cache.kind {
+        2 => index_a < a.faces,
+        3 => index_b < b.faces,
+        4 => {
+            let even = index_a.is_multiple_of(2) && index_b.is_multiple_of(2);
+            even && index_a < a.half_edges && index_b < b.half_edges
+        }
+        _ => true,
+    }
+}
+
+/// No contact, and the cache as it was.
+pub fn empty(status: u8, cache: SatCache) -> Answer {
+    let contact = NO_CONTACT;
+    Answer {
+        outcome: Outcome { status, contact },
+        cache,
+    }
+}
+
+/// Equal in every place, any NaN of a point or a normal being equal to any other.
+pub fn same_answers(a: &Answer, b: &Answer) -> bool {
+    let Outcome { status, contact } = a.outcome;
+    let (points, others) = (contact.points, b.outcome.contact.points);
+    status == b.outcome.status
+        && a.cache == b.cache
+        && contact.count == b.outcome.contact.count
+        && same_vectors(contact.normal, b.outcome.contact.normal)
+        && points.iter().zip(&others).all(|(p, q)| same_points(p, q))
+}
+
+fn same_points(a: &Point, b: &Point) -> bool {
+    same_vectors(a.position, b.position) && same(a.separation, b.separation) && a.pair == b.pair
+}
+
+fn same_vectors(a: Vec3, b: Vec3) -> bool {
+    same(a.x, b.x) && same(a.y, b.y) && same(a.z, b.z)
+}
