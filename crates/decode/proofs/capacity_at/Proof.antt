@@ -1,0 +1,24 @@
+use mir.Syntax.{w32}
+use mir.ValLaws.{toZ-ofZ}
+use mathlib.Core.Path.{ap, _∙_}
+use Rattle.decode.specs.Fields.{signed}
+-- The number with a sign.
+use borrow.Author.Needs.{needs}
+use Rattle.decode.proofs.capacity_at.Statement.{statement}
+use Rattle.decode.proofs.capacity_at.Tie as tie
+use Rattle.decode.proofs.capacity_at.Reads as reads
+use Rattle.decode.proofs.capacity_at.Lts as lts
+use Rattle.decode.proofs.number32_at.Reads as number32-at-reads
+use Rattle.decode.proofs.signed_of.Reads as signed-of-reads
+
+number32-at-requires : tie.Need-number32-at-requires
+number32-at-requires c κs = search needs
+
+signed-of-requires : tie.Need-signed-of-requires
+signed-of-requires c κs = search needs
+
+returns : tie.Need-returns
+returns c = toZ-ofZ w32 (c .signed-of .result) (record { sfits = c .signed-of .ok }) ∙ (c .signed-of .ensures ∙ ap signed (c .before .number32-at .ensures))
+
+pub capacity-at-spec : {M : Type 1} → statement M
+capacity-at-spec = tie.close (tie.spec number32-at-requires signed-of-requires returns)

@@ -1,0 +1,20 @@
+-- The float of the four bytes.
+use borrow.Author.Needs.{needs}
+use Rattle.decode.proofs.float_at.Statement.{statement}
+use Rattle.decode.proofs.float_at.Tie as tie
+use Rattle.decode.proofs.float_at.Reads as reads
+use Rattle.decode.proofs.float_at.Lts as lts
+use Rattle.decode.proofs.number32_at.Reads as number32-at-reads
+use Rattle.manifold.proofs.bits.float_of.Reads as float-of-reads
+
+number32-at-requires : tie.Need-number32-at-requires
+number32-at-requires c κs = search needs
+
+float-of-requires : tie.Need-float-of-requires
+float-of-requires c κs = search needs
+
+returns : tie.Need-returns
+returns c = simp (c .float-of .ensures, c .before .number32-at .ensures)
+
+pub float-at-spec : {M : Type 1} → statement M
+float-at-spec = tie.close (tie.spec number32-at-requires float-of-requires returns)

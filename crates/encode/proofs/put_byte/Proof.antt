@@ -1,0 +1,19 @@
+-- One byte.
+use Rattle.encode.proofs.Written.{once}
+use borrow.Author.Needs.{needs}
+use Rattle.encode.proofs.put_byte.Statement.{statement}
+use Rattle.encode.proofs.put_byte.Tie as tie
+use Rattle.encode.proofs.put_byte.Reads as reads
+use Rattle.encode.proofs.put_byte.Lts as lts
+
+slice-write-out : tie.Need-slice-write-out
+slice-write-out c = search needs
+
+same-length : tie.Need-same-length
+same-length c = search needs
+
+returns : tie.Need-returns
+returns c = once _ _ _
+
+pub put-byte-spec : {M : Type 1} → statement M
+put-byte-spec = tie.close (tie.spec slice-write-out same-length returns)

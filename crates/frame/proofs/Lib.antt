@@ -1,0 +1,3 @@
+pub mod Puts
+pub mod Lengths
+pub mod Calls

@@ -1,0 +1,45 @@
+-- Refusal 8, or the pair.
+use mathlib.Core.Path.{refl}
+use Rattle.encode.proofs.Written.{then}
+use Rattle.frame.proofs.Puts.{put, answers-same, flip-refused, flip-done}
+use borrow.Author.Needs.{needs}
+use Rattle.frame.proofs.flipped_answer.Statement.{statement}
+use Rattle.frame.proofs.flipped_answer.Tie as tie
+use Rattle.frame.proofs.flipped_answer.Reads as reads
+use Rattle.frame.proofs.flipped_answer.Lts as lts
+use Rattle.encode.proofs.put_byte.Reads as put-byte-reads
+use Rattle.encode.proofs.put_pair.Reads as put-pair-reads
+use Rattle.frame.proofs.put_fault.Reads as put-fault-reads
+
+put-fault-requires : tie.Need-put-fault-requires
+put-fault-requires c κs = search needs
+
+same-length : tie.Need-same-length
+same-length c = search needs
+
+returns : tie.Need-returns
+returns c = answers-same (c .before .before .put-fault .ensures) (flip-refused _ (c .before .before .before .before .if1 .taken))
+
+put-byte-requires : tie.Need-put-byte-requires
+put-byte-requires c κs = search needs
+
+put-pair-requires : tie.Need-put-pair-requires
+put-pair-requires c κs = search needs
+
+same-length-2 : tie.Need-same-length-2
+same-length-2 c = search needs
+
+returns-2 : tie.Need-returns-2
+returns-2 c = answers-same (put (then (c .before .before .before .before .before .before .before .put-byte .ensures) (c .before .before .put-pair .ensures) refl) (search needs) refl) (flip-done _ (c .before .before .before .before .before .before .before .before .before .if1 .left))
+
+pub flipped-answer-spec : {M : Type 1} → statement M
+flipped-answer-spec =
+    tie.close
+    (tie.spec
+    put-fault-requires
+    same-length
+    returns
+    put-byte-requires
+    put-pair-requires
+    same-length-2
+    returns-2)

@@ -1,0 +1,21 @@
+-- The note stays, or becomes 1.
+use mathlib.Core.Path.{_∙_, sym, ap}
+use mathlib.Core.Bool.{cond}
+use borrow.Author.Needs.{needs}
+use Rattle.hex.proofs.noted.Statement.{statement}
+use Rattle.hex.proofs.noted.Tie as tie
+use Rattle.hex.proofs.noted.Reads as reads
+use Rattle.hex.proofs.noted.Lts as lts
+use Rattle.hex.proofs.hex_digit.Reads as hex-digit-reads
+
+hex-digit-requires : tie.Need-hex-digit-requires
+hex-digit-requires c κs = search needs
+
+returns : tie.Need-returns
+returns c = rw (sym (c .before .hex-digit .ensures) ∙ c .if1 .taken)
+
+returns-2 : tie.Need-returns-2
+returns-2 c = rw (sym (c .before .hex-digit .ensures) ∙ c .if1 .left)
+
+pub noted-spec : {M : Type 1} → statement M
+noted-spec = tie.close (tie.spec hex-digit-requires returns returns-2)
