@@ -1,7 +1,5 @@
 // The collision call of hulls.rs, by value: two hulls, a transform and the last cache go in; the outcome and the next cache come out. It requires nothing: whatever breaks a
 // rule is refused by its number. What it answers is in specs/Call.antt, step by step as document 01 has it.
-pub mod lent;
-
 ghost use mathlib.Core.Bool.{true};
 ghost use mathlib.Core.Path.{_≡_};
 ghost use Rattle.hull.specs.Accepted.{Accepted, Placed};

@@ -1,7 +1,6 @@
 // What the runs and the benchmarks of host/ link: a door to each layer, thin. What hosts of the routine link is another library.
-// A probe of several helpers answers them all in one record, so that one call tries a whole layer. The door to the whole call is in calls.rt, those to the axis search in axes.rt, to the cuts and picks in cuts.rt.
+// A probe of several helpers answers them all in one record, so that one call tries a whole layer. The doors to the axis search are in axes.rt, to the cuts and picks in cuts.rt.
 pub mod axes;
-pub mod calls;
 pub mod cuts;
 
 ghost use mathlib.Core.Path.{_≡_};

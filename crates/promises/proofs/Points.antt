@@ -14,7 +14,7 @@ use Rattle.manifold.specs.Records.{pastVertex}
 use Rattle.links.specs.declared.HullSize.{HullSize}
 use Rattle.reduce.specs.Reduce.{numbered, contactOf}
 use Rattle.collide.specs.Call.{collideOf}
-use Rattle.collide.specs.Lent.{Called}
+use Rattle.contactlib.specs.Lent.{Called}
 use Rattle.promises.specs.Sources.{Drawn}
 use Rattle.promises.proofs.Draws.{answers-call}
 

@@ -20,8 +20,8 @@ use Rattle.links.proofs.Tests.{cases}
 use Rattle.hull.specs.Rule8.{brokenRule, transformRight}
 use Rattle.collide.specs.Refusals.{cacheRight, refusalOf}
 use Rattle.collide.specs.Call.{accepted, collideOf}
-use Rattle.collide.specs.Lent.{Called}
-use Rattle.collide.proofs.Keeps.{keeps-call}
+use Rattle.contactlib.specs.Lent.{Called}
+use Rattle.contactlib.proofs.Keeps.{keeps-call}
 use Rattle.collide.proofs.Steps.{refuses-1, refuses-2, refuses-3, refuses-4, unrefused}
 use Rattle.promises.specs.Numbers.{Exactly, workMeets, numberOf}
 use Rattle.promises.proofs.Statuses.{call-status}

@@ -16,7 +16,7 @@ use Rattle.links.specs.Rounds.{Rounds}
 use Rattle.hull.specs.Rule8.{brokenRule}
 use Rattle.hull.proofs.Accepted.{accepted}
 use Rattle.collide.specs.Call.{collideOf}
-use Rattle.collide.specs.Lent.{Called}
+use Rattle.contactlib.specs.Lent.{Called}
 use Rattle.collide.proofs.Steps.{unrefused}
 use Rattle.promises.proofs.Refusals.{none-given}
 

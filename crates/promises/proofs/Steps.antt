@@ -29,7 +29,7 @@ use Rattle.cached.specs.Again.{separationFromA, separationFromB, ridgeOf, carri
 use Rattle.full.specs.Full.{apartBuilt, afterSearch, fullOf}
 use Rattle.collide.specs.Refusals.{refusalOf}
 use Rattle.collide.specs.Call.{accepted, answerOf, afterCached, collideOf}
-use Rattle.collide.specs.Lent.{Called}
+use Rattle.contactlib.specs.Lent.{Called}
 use Rattle.collide.proofs.Steps.{call-worked, cached-hit, at-2, at-3, at-4, at-rest}
 
 -- ---- the lent call gives the definition's outcome and cache, and nothing else

@@ -1,16 +1,16 @@
 // The call as hosts know it: the cache is lent, and updated where it stands.
 ghost use Rattle.collide.specs.Call.{collideOf};
-ghost use Rattle.collide.specs.Lent.{Called};
+ghost use Rattle.contactlib.specs.Lent.{Called};
 ghost use mathlib.Core.Path.{_≡_};
-use crate::collide_core;
+use collide::collide_core;
 use links::HullSize;
-use manifold::Answer;
 use manifold::Outcome;
 use manifold::SatCache;
 use vector::Transform;
 
 // One call. The cache at exit is the next cache; a refusal leaves every bit of it.
-pub fn collide(
+#[no_mangle]
+pub extern "C" fn contact_collide(
     capacity: i32,
     numbers_a: &[f32],
     links_a: &[u8],
@@ -36,36 +36,4 @@ pub fn collide(
     );
     *cache = answer.cache;
     answer.outcome
-}
-
-// The lent call for callers that have the cache by value: it lends its own.
-pub fn collide_through(
-    capacity: i32,
-    numbers_a: &[f32],
-    links_a: &[u8],
-    size_a: HullSize,
-    numbers_b: &[f32],
-    links_b: &[u8],
-    size_b: HullSize,
-    transform: Transform,
-    cache: SatCache,
-) -> Answer
-    ensures { λ r. ⌜ r ≡ collideOf «size_a» (now («numbers_a» .entry)) (now («links_a» .entry)) «size_b» (now («numbers_b» .entry)) (now («links_b» .entry)) transform capacity cache ⌝ }
-{
-    let mut next = cache;
-    let outcome = collide(
-        capacity,
-        numbers_a,
-        links_a,
-        size_a,
-        numbers_b,
-        links_b,
-        size_b,
-        transform,
-        &mut next,
-    );
-    Answer {
-        outcome,
-        cache: next,
-    }
 }

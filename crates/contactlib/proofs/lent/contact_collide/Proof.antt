@@ -1,4 +1,4 @@
--- `collide` meets its contract: a walk of its MIR, by hand. The borrow of the cache is opened and the cache is copied; the core is called on the copy; the cache that it
+-- `contact_collide` meets its contract: a walk of its MIR, by hand. The borrow of the cache is opened and the cache is copied; the core is called on the copy; the cache that it
 -- answers is stored, and the borrow is closed at it. All that the proof knows of the core is that it meets its contract. What the other parameters own goes to the core whole.
 -- Assumes nothing.
 use mathlib.Core.Path.{_≡_, refl, ap, _∙_}
@@ -43,9 +43,9 @@ use denote.Triple.Table.{entered, cited}
 use denote.Triple.Walked.{says, Stays, stay-ref, stay-dropped, walkOf, AllGo, goes-dropped, goes-ref, Walks, ends-at, walked, walk-meets}
 use denote.Exit.{yes}
 use denote.Triple.Clauses.{ensured, lasts}
 use Rattle.collide.specs.Call.{collideOf}
-use Rattle.collide.specs.Lent.{Called}
-use Rattle.collide.proofs.Keeps.{keeps-call}
+use Rattle.contactlib.specs.Lent.{Called}
+use Rattle.contactlib.proofs.Keeps.{keeps-call}
 use Rattle.manifold.specs.declared.Answer.{Answer}
 use Rattle.links.specs.declared.HullSize.{HullSize}
 use Rattle.manifold.specs.declared.Outcome.{Outcome}
@@ -61,14 +61,14 @@ use Rattle.manifold.proofs.SatCache as SatCache-row
 use Rattle.manifold.proofs.SatCache.Laws as SatCache-laws
 use Rattle.vector.proofs.Transform as Transform-row
 use Rattle.vector.proofs.Transform.Laws as Transform-laws
 use Rattle.collide.proofs.collide_core as core
 use Rattle.collide.proofs.collide_core.Symbol as core-def
 use Rattle.collide.proofs.collide_core.Symbol.{name as #core}
 use Rattle.collide.proofs.collide_core.Met as core-thm
-use Rattle.collide.proofs.lent.collide.Key.{name as #outer}
-use Rattle.collide.proofs.lent.collide as outer
-use Rattle.collide.proofs.lent.collide.Statement as stated
-use Rattle.collide.proofs.lent.collide.Code as code
+use Rattle.contactlib.proofs.lent.contact_collide.Key.{name as #outer}
+use Rattle.contactlib.proofs.lent.contact_collide as outer
+use Rattle.contactlib.proofs.lent.contact_collide.Statement as stated
+use Rattle.contactlib.proofs.lent.contact_collide.Code as code
 
 abbrev stayed : Stays (outer.ended .signature .params) (outer.ended .kept)
 stayed =
@@ -248,9 +248,9 @@ outer-meets : {M : Type 1} (𝓤 : URA M) (H : Heap 𝓤) (A : Atoms 𝓤) (W : 
 outer-meets 𝓤 H A W mem run 𝓣 known = walk-meets 𝓤 H A outer.ended stayed W (goes 𝓤 H A W mem run) (outer.clauses 𝓤 H A mem run) (WpFn 𝓤 H (𝓣 .C) (𝓣 .Λ) code.function) (WpFn-mono 𝓤 H (W .laws) 𝓣 code.function)
     (outer-walks 𝓤 H A W mem run (𝓣 .C) (𝓣 .Λ) (fmOf 𝓤 H (W .laws) 𝓣) known)
 
-pub collide-spec : {M : Type 1} → stated.statement M
+pub contact-collide-spec : {M : Type 1} → stated.statement M
 unfolding code.routine tablesOf
-collide-spec 𝓤 H 𝓜 𝓖 𝓡 =
+contact-collide-spec 𝓤 H 𝓜 𝓖 𝓡 =
     entered 𝓤 H (tripleOf 𝓤 H (𝓖 .A) outer.signature (outer.spec 𝓤 H (𝓖 .A) (𝓜 .mem) (𝓡 .run)))
     (tables 𝓤 H 𝓜 𝓡 code.env .C) (tables 𝓤 H 𝓜 𝓡 code.env .Λ) #outer code.function (code.unfolded 𝓤 H 𝓜 𝓡)
     (outer-meets 𝓤 H (𝓖 .A) (givenOf 𝓤 H 𝓜 𝓖) (𝓜 .mem) (𝓡 .run) (tablesOf 𝓤 H 𝓜 (tables 𝓤 H 𝓜 𝓡 code.env))
