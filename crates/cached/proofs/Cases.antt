@@ -1,10 +1,9 @@
--- The cached axis by its cases, as the code meets them: what is built anew serves or not, the vertex deepest below a face, a pair of edges. Assumes nothing.
+-- The cached axis by its cases, as the code meets them: the vertex deepest below a face, a pair of edges. Assumes nothing.
 use Prim.Native.Nat.{ℕ, _<_}
 use mathlib.Core.Path.{_≡_, sym, ap, _∙_}
 use mathlib.Core.Bool.{Bool, true, false, cond}
 use mathlib.Core.List.{List}
 use native.Mathlib.Omega.{arith}
-use lib.Dec.{eqb}
 use lib.Ieee as Ieee
 use lib.Ieee.{Float}
 use Rattle.vector.specs.declared.Vec3.{Vec3}
@@ -22,33 +21,14 @@ use Rattle.hull.specs.Numbers.{vertexAt, planeAt, supportAt}
 use Rattle.hull.specs.Accepted.{Accepted}
 use Rattle.hull.proofs.Support.{support-in}
 use Rattle.clip.proofs.Hulls.{below, in-list}
-use Rattle.contacts.specs.declared.Built.{Built}
+use Rattle.builds.specs.declared.Built.{Built}
 use Rattle.contacts.specs.Faces.{faceAOf, faceBOf}
 use Rattle.contacts.specs.EdgePairs.{edgeContactOf}
-use Rattle.cached.specs.declared.Cached.{Cached}
-use Rattle.cached.specs.declared.Ridge.{Ridge}
-use Rattle.cached.specs.Again.{hitWith, noHit, nearOf, servedOf, deepestBelowA, separationFromA, cachedFaceAOf, deepestBelowB, separationFromB, cachedFaceBOf}
-use Rattle.cached.specs.Again.{ridgeOf, carriedRidge, crossesOf, axisBetween, cachedEdgeOf}
-
--- ---- the four cases of `servedOf`
-module _ (cache : SatCache) (b : Built) where
-  pub stays-refused : eqb (b .status) 0 ≡ false → noHit (b .status) ≡ servedOf cache b
-  unfolding servedOf
-  stays-refused h = rw h
-
-  module _ (ok : eqb (b .status) 0 ≡ true) where
-    pub not-touching : b .touching ≡ false → noHit 0 ≡ servedOf cache b
-    unfolding servedOf
-    not-touching h = rw (ok, h)
-
-    module _ (yes : b .touching ≡ true) where
-      pub still-near : nearOf cache (b .cache) ≡ true → hitWith (b .contact) ≡ servedOf cache b
-      unfolding servedOf
-      still-near h = rw (ok, yes, h)
-
-      pub moved-off : nearOf cache (b .cache) ≡ false → noHit 0 ≡ servedOf cache b
-      unfolding servedOf
-      moved-off h = rw (ok, yes, h)
+use Rattle.answers.specs.declared.Cached.{Cached}
+use Rattle.ridges.specs.declared.Ridge.{Ridge}
+use Rattle.answers.specs.Served.{hitWith, noHit, servedOf}
+use Rattle.ridges.specs.Ridges.{ridgeOf, carriedRidge, crossesOf, axisBetween}
+use Rattle.cached.specs.Again.{deepestBelowA, separationFromA, cachedFaceAOf, deepestBelowB, separationFromB, cachedFaceBOf, cachedEdgeOf}
 
 -- ---- an axis, whatever its type: far enough apart is a hit with no points, else it is built anew
 module _ (far : Bool) (cache : SatCache) (b : Built) where

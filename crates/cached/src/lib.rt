@@ -1,94 +1,28 @@
 // The axis of the last call tried again, from hulls.rs: a hit, or the full search has to be made. What each type does is in specs/Again.antt.
-pub mod crossing;
-
 ghost use mathlib.Core.Path.{_≡_};
 ghost use Prim.Native.Nat.{_+_, _<_};
 ghost use Rattle.hull.specs.Accepted.{Accepted};
-ghost use Rattle.cached.specs.Again.{hitWith, noHit, nearOf, servedOf, cachedFaceAOf, cachedFaceBOf, cachedEdgeOf};
-use crate::crossing::axis_between;
-use crate::crossing::carried_ridge;
-use crate::crossing::crosses;
-use crate::crossing::ridge_of;
-use contacts::Built;
+ghost use Rattle.cached.specs.Again.{cachedFaceAOf, cachedFaceBOf, cachedEdgeOf};
+use answers::Cached;
+use answers::hit_with;
+use answers::no_hit;
+use answers::served;
 use contacts::edge::build_edge_contact;
 use contacts::face::build_face_a_contact;
 use contacts::face::build_face_b_contact;
 use links::HullSize;
-use manifold::Contact;
 use manifold::SatCache;
-use manifold::bits::float_of;
-use manifold::limits::linear_slop;
 use manifold::limits::speculative_distance;
 use manifold::records::empty_contact;
+use ridges::axis_between;
+use ridges::carried_ridge;
+use ridges::crosses;
+use ridges::ridge_of;
 use vector::Transform;
-use vector::Vec3;
 use vector::arithmetic::dot;
 use vector::arithmetic::neg;
 use vector::arithmetic::sub;
-use vector::scalar::abs_float;
 use vector::shape::plane_separation;
-
-// A hit, with the contact that comes of it; else the full search has to be made, or the work met a refusal, whose number is the status.
-pub struct Cached {
-    pub status: u8,
-    pub hit: bool,
-    pub contact: Contact,
-}
-
-// An edge: its direction, where it ends, and the normals of the faces on its two sides.
-pub struct Ridge {
-    pub direction: Vec3,
-    pub end: Vec3,
-    pub normal0: Vec3,
-    pub normal1: Vec3,
-}
-
-fn hit_with(contact: Contact) -> Cached
-    ensures { λ r. ⌜ r ≡ hitWith contact ⌝ }
-{
-    Cached {
-        status: 0,
-        hit: true,
-        contact,
-    }
-}
-
-fn no_hit(status: u8) -> Cached
-    ensures { λ r. ⌜ r ≡ noHit status ⌝ }
-{
-    let contact = empty_contact();
-    Cached {
-        status,
-        hit: false,
-        contact,
-    }
-}
-
-// Whether two separations differ by less than slop.
-fn near(cache: SatCache, fresh: SatCache) -> bool
-    ensures { λ r. ⌜ r ≡ nearOf cache fresh ⌝ }
-{
-    let difference = float_of(cache.separation) - float_of(fresh.separation);
-    abs_float(difference) < linear_slop()
-}
-
-// Whether what was built anew may stand for the cached axis.
-fn served(cache: SatCache, built: Built) -> Cached
-    ensures { λ r. ⌜ r ≡ servedOf cache built ⌝ }
-{
-    if built.status != 0 {
-        return no_hit(built.status);
-    }
-    if !built.touching {
-        return no_hit(0);
-    }
-    let fresh = built.cache;
-    if near(cache, fresh) {
-        let contact = built.contact;
-        return hit_with(contact);
-    }
-    no_hit(0)
-}
 
 // Type 2: the cached face of A.
 pub fn cached_face_a(

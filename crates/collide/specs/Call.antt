@@ -8,28 +8,15 @@ use lib.Signed.{ltZ}
 use lib.Ieee.{Float}
 use Rattle.vector.specs.declared.Transform.{Transform}
 use Rattle.manifold.specs.declared.SatCache.{SatCache}
-use Rattle.manifold.specs.declared.Contact.{Contact}
 use Rattle.manifold.specs.declared.Answer.{Answer}
 use Rattle.manifold.specs.Records.{emptyContact, hitSet}
 use Rattle.links.specs.declared.HullSize.{HullSize}
-use Rattle.contacts.specs.declared.Built.{Built}
-use Rattle.cached.specs.declared.Cached.{Cached}
+use Rattle.answers.specs.declared.Cached.{Cached}
 use Rattle.cached.specs.Again.{cachedFaceAOf, cachedFaceBOf, cachedEdgeOf}
 use Rattle.full.specs.Full.{fullOf}
-use Rattle.full.specs.Manual.{manualFaceAOf, manualFaceBOf, manualEdgeOf}
-use Rattle.collide.specs.Refusals.{refusalOf}
-
--- accepted, with this contact and this next cache
-abbrev pub accepted : Contact → SatCache → Answer
-accepted contact cache = record { outcome = record { status = 0; contact = contact }; cache = cache }
-
--- "Refusals 1 to 7 return an empty contact and leave the cache's bits, hit included."
-abbrev pub refusedOf : ℕ → SatCache → Answer
-refusedOf number cache = record { outcome = record { status = number; contact = emptyContact }; cache = cache }
-
--- what was built, or the refusal that the work met, with the cache as it was lent
-unfoldable pub answerOf : SatCache → Built → Answer
-answerOf cache built = cond (eqb (built .status) 0) (accepted (built .contact) (built .cache)) (refusedOf (built .status) cache)
+use Rattle.manual.specs.Manual.{manualFaceAOf, manualFaceBOf, manualEdgeOf}
+use Rattle.refusals.specs.Refusals.{refusalOf}
+use Rattle.answers.specs.Answers.{accepted, refusedOf, answerOf}
 
 -- hull A is (s, n, l), hull B is (t, m, k), and x places B in A's frame
 module _ (s : HullSize) (n : List Float) (l : List ℕ) (t : HullSize) (m : List Float) (k : List ℕ) (x : Transform) where

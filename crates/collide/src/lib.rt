@@ -3,115 +3,26 @@
 ghost use mathlib.Core.Bool.{true};
 ghost use mathlib.Core.Path.{_≡_};
 ghost use Rattle.hull.specs.Accepted.{Accepted, Placed};
-ghost use Rattle.collide.specs.Refusals.{firstHalf, cacheRight, refusalOf};
-ghost use Rattle.collide.specs.Call.{accepted, refusedOf, answerOf, afterCached, workedOf, collideOf};
-use cached::Cached;
+ghost use Rattle.refusals.specs.Refusals.{cacheRight};
+ghost use Rattle.collide.specs.Call.{afterCached, workedOf, collideOf};
+use answers::Cached;
+use answers::accepted_with;
+use answers::answer_of;
+use answers::refused;
 use cached::cached_edge;
 use cached::cached_face_a;
 use cached::cached_face_b;
-use contacts::Built;
 use full::full_search;
-use full::manual::manual_edge;
-use full::manual::manual_face_a;
-use full::manual::manual_face_b;
-use hull::first_broken_rule;
-use hull::rule8::transform_accepted;
 use links::HullSize;
 use manifold::Answer;
-use manifold::Contact;
-use manifold::Outcome;
 use manifold::SatCache;
 use manifold::records::empty_contact;
 use manifold::records::hit_set;
+use manual::manual_edge;
+use manual::manual_face_a;
+use manual::manual_face_b;
+use refusals::first_refusal;
 use vector::Transform;
-
-fn accepted_with(contact: Contact, cache: SatCache) -> Answer
-    ensures { λ r. ⌜ r ≡ accepted contact cache ⌝ }
-{
-    Answer {
-        outcome: Outcome { status: 0, contact },
-        cache,
-    }
-}
-
-// An empty contact, and the cache as it was lent.
-fn refused(status: u8, cache: SatCache) -> Answer
-    ensures { λ r. ⌜ r ≡ refusedOf status cache ⌝ }
-{
-    let contact = empty_contact();
-    Answer {
-        outcome: Outcome { status, contact },
-        cache,
-    }
-}
-
-// What was built, or the refusal that the work met.
-fn answer_of(cache: SatCache, built: Built) -> Answer
-    ensures { λ r. ⌜ r ≡ answerOf cache built ⌝ }
-{
-    if built.status != 0 {
-        return refused(built.status, cache);
-    }
-    let contact = built.contact;
-    let next = built.cache;
-    accepted_with(contact, next)
-}
-
-// Whether a number is that of the first of two half-edges: even, and below H.
-fn first_half(size: HullSize, e: u8) -> bool
-    ensures { λ r. ⌜ r ≡ firstHalf size e ⌝ }
-{
-    if e % 2 != 0 {
-        return false;
-    }
-    (e as usize) < size.half_edges
-}
-
-// Whether what the cache names is there: refusal 4 where it is not.
-fn cache_right(size_a: HullSize, size_b: HullSize, cache: SatCache) -> bool
-    ensures { λ r. ⌜ r ≡ cacheRight «size_a» «size_b» cache ⌝ }
-{
-    let kind = cache.kind;
-    match kind {
-        2 => (cache.index_a as usize) < size_a.faces,
-        3 => (cache.index_b as usize) < size_b.faces,
-        4 => {
-            if first_half(size_a, cache.index_a) {
-                return first_half(size_b, cache.index_b);
-            }
-            false
-        }
-        0..=1 | 5..=255 => true,
-    }
-}
-
-// The first refusal that is given before any work, 0 if none.
-fn first_refusal(
-    numbers_a: &[f32],
-    links_a: &[u8],
-    size_a: HullSize,
-    numbers_b: &[f32],
-    links_b: &[u8],
-    size_b: HullSize,
-    transform: Transform,
-    cache: SatCache,
-) -> u8
-    ensures { λ r. ⌜ r ≡ refusalOf «size_a» (now («numbers_a» .entry)) (now («links_a» .entry)) «size_b» (now («numbers_b» .entry)) (now («links_b» .entry)) transform cache ⌝ }
-{
-    if first_broken_rule(numbers_a, links_a, size_a) != 0 {
-        return 1;
-    }
-    if first_broken_rule(numbers_b, links_b, size_b) != 0 {
-        return 2;
-    }
-    if !transform_accepted(transform) {
-        return 3;
-    }
-    if !cache_right(size_a, size_b, cache) {
-        return 4;
-    }
-    0
-}
 
 // A cached axis that serves again: hit 1, and the other fields of the cache kept. Else the full search.
 fn after_cached(

@@ -13,10 +13,11 @@ use Rattle.manifold.specs.declared.Contact.{Contact}
 use Rattle.manifold.specs.declared.Answer.{Answer}
 use Rattle.manifold.specs.Records.{emptyContact, hitSet}
 use Rattle.links.specs.declared.HullSize.{HullSize}
-use Rattle.contacts.specs.declared.Built.{Built}
-use Rattle.cached.specs.declared.Cached.{Cached}
-use Rattle.collide.specs.Refusals.{refusalOf}
-use Rattle.collide.specs.Call.{accepted, refusedOf, answerOf, afterCached, workedOf, collideOf}
+use Rattle.builds.specs.declared.Built.{Built}
+use Rattle.answers.specs.declared.Cached.{Cached}
+use Rattle.refusals.specs.Refusals.{refusalOf}
+use Rattle.answers.specs.Answers.{accepted, refusedOf, answerOf}
+use Rattle.collide.specs.Call.{afterCached, workedOf, collideOf}
 
 -- an answer that refuses has an empty contact and this cache
 pub record Keeps (c : SatCache) (a : Answer) : Type 0 where

@@ -24,8 +24,8 @@ use Rattle.cut.proofs.Results.{too-many, all-corners}
 use Rattle.clip.specs.Candidates.{candidatesOf}
 use Rattle.scores.specs.Images.{imageOf, leastSeparationOf, touchingOf}
 use Rattle.reduce.specs.Reduce.{pointsOf, contactOf}
-use Rattle.contacts.specs.declared.Built.{Built}
-use Rattle.contacts.specs.Builds.{touchedOf, missed, refusedAt}
+use Rattle.builds.specs.declared.Built.{Built}
+use Rattle.builds.specs.Builds.{touchedOf, missed, refusedAt}
 use Rattle.contacts.specs.Faces.{pointsFrom, contactOnA, onFace, faceAOf}
 
 -- ---- the three cases of `onFace`

@@ -20,10 +20,10 @@ use Rattle.scores.specs.Images.{imageOf, leastSeparationOf, touchingOf}
 use Rattle.reduce.specs.Reduce.{pointOf, normalOf, contactOf}
 use Rattle.reduce.proofs.Chosen.{chosen}
 use Rattle.clip.specs.Candidates.{candidatesOf}
-use Rattle.contacts.specs.declared.Built.{Built}
-use Rattle.contacts.specs.Builds.{touchedOf, missed, refusedAt}
+use Rattle.builds.specs.declared.Built.{Built}
+use Rattle.builds.specs.Builds.{touchedOf, missed, refusedAt}
 use Rattle.contacts.specs.Faces.{pointsFrom, carriedOf, contactOnA, contactOnB, onFace, faceAOf, faceBOf}
-use Rattle.contacts.specs.Carried.{carriedPoint, carriedPlace, carriedContact}
+use Rattle.builds.specs.Carried.{carriedPoint, carriedPlace, carriedContact}
 
 -- ---- four points or fewer, carried
 carried-few : (x : Transform) (normal : Vec3) (l : List ClipVertex) → length l ≤ 4

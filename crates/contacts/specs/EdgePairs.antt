@@ -18,8 +18,8 @@ use Rattle.links.specs.declared.HullSize.{HullSize}
 use Rattle.links.specs.Links.{twin, origin}
 use Rattle.hull.specs.Numbers.{vertexAt}
 use Rattle.reduce.specs.Reduce.{contactOf}
-use Rattle.contacts.specs.declared.Built.{Built}
-use Rattle.contacts.specs.Builds.{touchedOf, missed}
+use Rattle.builds.specs.declared.Built.{Built}
+use Rattle.builds.specs.Builds.{touchedOf, missed}
 
 -- the one point, of half-edges a and b: halfway between the nearest points, tagged with both
 unfoldable pub edgePoint : LineDistance → Vec3 → ℕ → ℕ → ClipVertex

@@ -19,8 +19,8 @@ use Rattle.hull.specs.Numbers.{planeAt}
 use Rattle.scores.specs.Images.{imageOf, leastSeparationOf, touchingOf}
 use Rattle.reduce.specs.Reduce.{pointsOf, contactOf}
 use Rattle.clip.specs.Candidates.{candidatesOf}
-use Rattle.contacts.specs.declared.Built.{Built}
-use Rattle.contacts.specs.Builds.{touchedOf, missed, refusedAt}
+use Rattle.builds.specs.declared.Built.{Built}
+use Rattle.builds.specs.Builds.{touchedOf, missed, refusedAt}
 
 -- ---- points
 -- of these candidates of a face with this normal, in the face's own frame: all images of four or fewer, else the picks

@@ -1,4 +1,2 @@
-pub mod Builds
 pub mod Faces
-pub mod Carried
 pub mod EdgePairs

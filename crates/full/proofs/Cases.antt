@@ -20,7 +20,7 @@ use Rattle.axis.specs.declared.Wanted.{Wanted}
 use Rattle.axis.specs.Ranges.{EdgeInRange, InRange}
 use Rattle.axis.specs.Search.{searchOf}
 use Rattle.axis.proofs.Ranges.{in-range}
-use Rattle.contacts.specs.declared.Built.{Built}
+use Rattle.builds.specs.declared.Built.{Built}
 use Rattle.full.specs.Full.{triesEdge, pairContact, contactA, contactB, winnerContact, insteadOf, withEdge, foundContact}
 
 -- ---- the pair of edges beside what the face made

@@ -19,8 +19,8 @@ use Rattle.axis.specs.declared.Search.{Search}
 use Rattle.axis.specs.declared.Wanted.{Wanted}
 use Rattle.axis.specs.Search.{searchOf}
 use Rattle.axis.specs.Meaning.{statusOf, cacheOf}
-use Rattle.contacts.specs.declared.Built.{Built}
-use Rattle.contacts.specs.Builds.{refusedAt}
+use Rattle.builds.specs.declared.Built.{Built}
+use Rattle.builds.specs.Builds.{refusedAt}
 use Rattle.contacts.specs.Faces.{faceAOf, faceBOf}
 use Rattle.contacts.specs.EdgePairs.{edgeContactOf}
 

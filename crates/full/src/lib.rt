@@ -1,6 +1,4 @@
-// The full search of hulls.rs, and the manual ones that are there for tests: an axis search, and the contact that it picks. What each builds is in specs/.
-pub mod manual;
-
+// The full search of hulls.rs: an axis search, and the contact that it picks. What it builds is in specs/Full.antt.
 ghost use mathlib.Core.Path.{_≡_};
 ghost use Prim.Native.Nat.{_<_};
 ghost use Rattle.hull.specs.Accepted.{Accepted, Placed};
@@ -12,11 +10,11 @@ use axis::EdgeAxis;
 use axis::Search;
 use axis::Wanted;
 use axis::compute_separating_axis;
-use contacts::Built;
+use builds::Built;
+use builds::refused_at;
 use contacts::edge::build_edge_contact;
 use contacts::face::build_face_a_contact;
 use contacts::face::build_face_b_contact;
-use contacts::refused_at;
 use links::HullSize;
 use manifold::SatCache;
 use manifold::bits::bits_of;
@@ -26,7 +24,7 @@ use manifold::records::empty_contact;
 use vector::Transform;
 
 // The hulls are apart: no points, and the axis in the cache.
-fn apart_built(apart: Apart) -> Built
+pub fn apart_built(apart: Apart) -> Built
     ensures { λ r. ⌜ r ≡ apartBuilt apart ⌝ }
 {
     let contact = empty_contact();
@@ -55,7 +53,7 @@ fn tries_edge(built: Built, edge: Axis) -> bool
 }
 
 // The contact of a pair of edges along its axis.
-fn pair_contact(
+pub fn pair_contact(
     numbers_a: &[f32],
     links_a: &[u8],
     size_a: HullSize,
@@ -83,7 +81,7 @@ fn pair_contact(
 }
 
 // The contact of an axis of face A.
-fn contact_a(
+pub fn contact_a(
     numbers_a: &[f32],
     links_a: &[u8],
     size_a: HullSize,
@@ -110,7 +108,7 @@ fn contact_a(
 }
 
 // The contact of an axis of face B.
-fn contact_b(
+pub fn contact_b(
     numbers_a: &[f32],
     links_a: &[u8],
     size_a: HullSize,

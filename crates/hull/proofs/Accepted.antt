@@ -17,7 +17,8 @@ use Rattle.links.proofs.Rounds.{rounds}
 use Rattle.vector.specs.declared.Transform.{Transform}
 use Rattle.vector.specs.Bounded.{VecBelow}
 use Rattle.hull.specs.Numbers.{numberAt, boxOf, vertexAt, planeAt}
-use Rattle.hull.specs.Rule8.{nearOne, planeRight, endsApart, edgeLong, brokenRule, transformRight}
+use Rattle.measures.specs.Measures.{nearOne, planeRight, endsApart}
+use Rattle.hull.specs.Rule8.{edgeLong, brokenRule, transformRight}
 use Rattle.hull.specs.Accepted.{Accepted, Placed}
 use Rattle.hull.proofs.Transforms.{transform-placed}
 use Rattle.hull.proofs.Laws.{Passed, passed, coordinate-below, plane-passed, plane-normal, plane-offset}

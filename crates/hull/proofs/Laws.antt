@@ -19,16 +19,10 @@ use Rattle.links.proofs.Tests.{cases, and-left, and-right, and-intro, and-is, a
 use Rattle.vector.specs.declared.Plane.{Plane}
 use Rattle.vector.specs.Bounded.{VecBelow}
 use Rattle.hull.specs.Numbers.{numberAt, boxOf, vertexAt, planeAt}
-use Rattle.hull.specs.Rule8.{inside, finiteAt, smallAt, inBox, vertexInBox, planeRight, planeRightAt, edgeLong, h8}
+use Rattle.measures.specs.Measures.{inside, inBox, planeRight}
+use Rattle.hull.specs.Rule8.{finiteAt, smallAt, vertexInBox, planeRightAt, edgeLong, h8}
 use Rattle.hull.specs.Passes.{smallFrom, paddingSmall}
-use Rattle.hull.proofs.Limits.{inside-below, small-below, moderate-below, below-small, normal-below, finite-is}
-
--- ---- two and three tests that the code joins
-pub and2 : {a b x y : Bool} → a ≡ x → b ≡ y → (a && b) ≡ (x & y)
-and2 {a} {b} p q = and-is a b ∙ ap₂ _&_ p q
-
-pub and3 : {a b d x y z : Bool} → a ≡ x → b ≡ y → d ≡ z → (a && b && d) ≡ (x & y & z)
-and3 p q r = and2 (and2 p q) r
+use Rattle.measures.proofs.Limits.{inside-below, small-below, moderate-below, below-small, normal-below, finite-is}
 
 -- ---- by H2 the origin of a half-edge is in the lists of vertices
 pub origin-in-list : (s : HullSize) (l : List ℕ) → h2 s l ≡ true → (e v : ℕ) → e < s .«half_edges» → v ≡ origin s l e → v < padded s

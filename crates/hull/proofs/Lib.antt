@@ -1,4 +1,3 @@
-pub mod Limits
 pub mod Laws
 pub mod Transforms
 pub mod Answer

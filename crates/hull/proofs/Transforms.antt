@@ -6,10 +6,11 @@ use Rattle.bounds.proofs.Laws.{more}
 use Rattle.links.specs.Tests.{_&_}
 use Rattle.links.proofs.Tests.{and-left, and-right, and-intro, same-test}
 use Rattle.vector.specs.declared.Transform.{Transform}
-use Rattle.hull.specs.Rule8.{small, nearOne, transformRight}
+use Rattle.measures.specs.Measures.{small, nearOne}
+use Rattle.hull.specs.Rule8.{transformRight}
 use Rattle.hull.specs.Accepted.{Placed}
-use Rattle.hull.proofs.Limits.{small-below, turn-below, finite-is}
-use Rattle.hull.proofs.Laws.{and2, and3}
+use Rattle.measures.proofs.Limits.{small-below, turn-below, finite-is}
+use Rattle.measures.proofs.Joined.{and2, and3}
 
 module _ (t : Transform) where
   abbrev tests : Bool

@@ -13,7 +13,7 @@ use Rattle.links.specs.Rounds.{Rounds}
 use Rattle.vector.specs.declared.Transform.{Transform}
 use Rattle.vector.specs.Bounded.{VecBelow}
 use Rattle.hull.specs.Numbers.{boxOf, vertexAt, planeAt}
-use Rattle.hull.specs.Rule8.{nearOne, endsApart}
+use Rattle.measures.specs.Measures.{nearOne, endsApart}
 
 pub record Accepted (s : HullSize) (n : List Float) (l : List ℕ) : Type 0 where
   -- the sizes are within H1's limits, so that every number of a vertex, half-edge or face fits a byte; the lists are as long as they should be

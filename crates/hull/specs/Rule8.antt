@@ -1,39 +1,19 @@
--- H8 of document 01, the rule of a hull's numbers; the first broken rule; and the rule of a transform: tests that compute. Definitions only.
+-- H8 of document 01, the rule of a hull's numbers; the first broken rule; and the rule of a transform: tests that compute. Definitions only; what holds of one number,
+-- point or plane is in the specs of `measures`.
 use mathlib.Core.Bool.{Bool}
 use mathlib.Core.List.{List, [], _∷_}
 use Prim.Native.Nat.{ℕ, _+_, _*_, _/_}
 use lib.ListN.{length}
-use lib.Ieee.{Float, binary32, le, neg, ofBits, sub}
+use lib.Ieee.{Float}
 use lib.Ieee.Scale.{finite}
-use Rattle.bounds.specs.Squares.{squares3, squares4}
+use Rattle.bounds.specs.Squares.{squares4}
 use Rattle.links.specs.declared.HullSize.{HullSize}
-use Rattle.links.specs.Tests.{_&_, _or_, all, firstBroken}
+use Rattle.links.specs.Tests.{_&_, all, firstBroken}
 use Rattle.links.specs.Links.{planesFrom, origin}
 use Rattle.links.specs.Rules.{h1, h2, h3, h4, h5, h6, h7}
-use Rattle.vector.specs.declared.Vec3.{Vec3}
-use Rattle.vector.specs.declared.Plane.{Plane}
-use Rattle.vector.specs.declared.Aabb.{Aabb}
 use Rattle.vector.specs.declared.Transform.{Transform}
+use Rattle.measures.specs.Measures.{small, nearOne, inBox, planeRight, endsApart}
 use Rattle.hull.specs.Numbers.{numberAt, boxOf, vertexAt, planeAt}
-
--- from lo to hi, ends inside; a NaN is not
-unfoldable pub inside : Float → Float → Float → Bool
-inside lo hi x = le lo x & le x hi
-
--- within 4096 either way, within 8192 either way
-unfoldable pub small : Float → Bool
-small x = inside (neg (ofBits binary32 0x4580_0000)) (ofBits binary32 0x4580_0000) x
-
-unfoldable pub moderate : Float → Bool
-moderate x = inside (neg (ofBits binary32 0x4600_0000)) (ofBits binary32 0x4600_0000) x
-
--- from the binary32 number nearest 0.99 to the one nearest 1.01
-unfoldable pub nearOne : Float → Bool
-nearOne x = inside (ofBits binary32 0x3f7d_70a4) (ofBits binary32 0x3f81_47ae) x
-
--- the rounded difference is 1/1024 or more either way
-unfoldable pub apart : Float → Float → Bool
-apart a b = le (ofBits binary32 0x3a80_0000) (sub binary32 b a) or le (sub binary32 b a) (neg (ofBits binary32 0x3a80_0000))
 
 -- H8. All floats finite.
 unfoldable pub finiteAt : List Float → ℕ → Bool
@@ -44,24 +24,14 @@ unfoldable pub smallAt : List Float → ℕ → Bool
 smallAt n i = small (numberAt n i)
 
 -- every vertex inside the box.
-unfoldable pub inBox : Aabb → Vec3 → Bool
-inBox b v =
-    inside (b .lower .x) (b .upper .x) (v .x) & inside (b .lower .y) (b .upper .y) (v .y) & inside (b .lower .z) (b .upper .z) (v .z)
-
 unfoldable pub vertexInBox : HullSize → List Float → ℕ → Bool
 vertexInBox s n v = inBox (boxOf n) (vertexAt s n v)
 
 -- Offsets within 8192. The sum of squares of each normal is 0.99 to 1.01.
-unfoldable pub planeRight : Plane → Bool
-planeRight p = nearOne (squares3 (p .normal .x) (p .normal .y) (p .normal .z)) & moderate (p .offset)
-
 unfoldable pub planeRightAt : HullSize → List Float → ℕ → Bool
 planeRightAt s n f = planeRight (planeAt s n f)
 
 -- For every edge some coordinate's rounded difference between its ends is 1/1024 or more either way.
-unfoldable pub endsApart : Vec3 → Vec3 → Bool
-endsApart a b = apart (a .x) (b .x) or apart (a .y) (b .y) or apart (a .z) (b .z)
-
 unfoldable pub edgeLong : HullSize → List Float → List ℕ → ℕ → Bool
 edgeLong s n l k = endsApart (vertexAt s n (origin s l (2 * k))) (vertexAt s n (origin s l (2 * k + 1)))
 

@@ -7,48 +7,18 @@ ghost use lib.ListN.{length};
 ghost use Rattle.links.specs.Tests.{_&_, all};
 ghost use Rattle.links.specs.Links.{LinksFit, NumbersFit};
 ghost use Rattle.links.specs.Rules.{h2};
-ghost use Rattle.hull.specs.Rule8.{inside, small, moderate, nearOne, apart, inBox, vertexInBox, planeRight, planeRightAt, endsApart, edgeLong, h8, transformRight};
+ghost use Rattle.hull.specs.Rule8.{vertexInBox, planeRightAt, edgeLong, h8, transformRight};
 ghost use Rattle.hull.specs.Passes.{smallFrom, paddingSmall};
 use crate::box_of;
 use crate::plane_at;
 use crate::vertex_at;
 use links::HullSize;
-use vector::Aabb;
-use vector::Plane;
+use measures::ends_apart;
+use measures::in_box;
+use measures::is_near_one;
+use measures::is_small;
+use measures::plane_right;
 use vector::Transform;
-use vector::Vec3;
-
-// Ends count as inside; a NaN is not.
-fn is_inside(lo: f32, hi: f32, x: f32) -> bool
-    ensures { λ r. ⌜ r ≡ inside lo hi x ⌝ }
-{
-    (lo <= x) & (x <= hi)
-}
-
-fn is_small(x: f32) -> bool
-    ensures { λ r. ⌜ r ≡ small x ⌝ }
-{
-    is_inside(-4096.0, 4096.0, x)
-}
-
-fn is_moderate(x: f32) -> bool
-    ensures { λ r. ⌜ r ≡ moderate x ⌝ }
-{
-    is_inside(-8192.0, 8192.0, x)
-}
-
-fn is_near_one(x: f32) -> bool
-    ensures { λ r. ⌜ r ≡ nearOne x ⌝ }
-{
-    is_inside(0.99, 1.01, x)
-}
-
-fn are_apart(a: f32, b: f32) -> bool
-    ensures { λ r. ⌜ r ≡ apart a b ⌝ }
-{
-    let d = b - a;
-    (0.0009765625 <= d) | (d <= -0.0009765625)
-}
 
 // The n numbers from `from` on are within 4096.
 fn numbers_small(numbers: &[f32], from: usize, n: usize) -> bool
@@ -76,14 +46,6 @@ fn padding_small(numbers: &[f32], size: HullSize) -> bool
         & numbers_small(numbers, 6 + 2 * p + v, p - v)
 }
 
-fn in_box(b: Aabb, v: Vec3) -> bool
-    ensures { λ r. ⌜ r ≡ inBox b v ⌝ }
-{
-    is_inside(b.lower.x, b.upper.x, v.x)
-        & is_inside(b.lower.y, b.upper.y, v.y)
-        & is_inside(b.lower.z, b.upper.z, v.z)
-}
-
 // Every vertex is inside the box.
 fn vertices_in_box(numbers: &[f32], size: HullSize) -> bool
     requires { ⌜ NumbersFit size (now numbers) ⌝ }
@@ -100,13 +62,6 @@ fn vertices_in_box(numbers: &[f32], size: HullSize) -> bool
     ok
 }
 
-fn plane_right(p: Plane) -> bool
-    ensures { λ r. ⌜ r ≡ planeRight p ⌝ }
-{
-    let n = p.normal;
-    is_near_one(n.x * n.x + n.y * n.y + n.z * n.z) & is_moderate(p.offset)
-}
-
 // Every plane has a normal of length about 1 and an offset within 8192.
 fn planes_right(numbers: &[f32], size: HullSize) -> bool
     requires { ⌜ NumbersFit size (now numbers) ⌝ }
@@ -120,19 +75,6 @@ fn planes_right(numbers: &[f32], size: HullSize) -> bool
         i += 1;
     }
     ok
-}
-
-// The ends of an edge are apart along some axis. Most are so along the first, so the others wait.
-fn ends_apart(a: Vec3, b: Vec3) -> bool
-    ensures { λ r. ⌜ r ≡ endsApart a b ⌝ }
-{
-    if are_apart(a.x, b.x) {
-        return true;
-    }
-    if are_apart(a.y, b.y) {
-        return true;
-    }
-    are_apart(a.z, b.z)
 }
 
 fn edge_long(numbers: &[f32], links: &[u8], size: HullSize, k: usize) -> bool

@@ -31,16 +31,19 @@ use Rattle.reduce.proofs.Chosen.{chosen}
 use Rattle.axis.specs.declared.Axis.{Axis}
 use Rattle.axis.specs.declared.EdgeAxis.{EdgeAxis}
 use Rattle.axis.specs.declared.Search.{Search}
-use Rattle.contacts.specs.declared.Built.{Built}
-use Rattle.contacts.specs.Builds.{touchedOf}
+use Rattle.builds.specs.declared.Built.{Built}
+use Rattle.builds.specs.Builds.{touchedOf}
 use Rattle.contacts.specs.Faces.{pointsFrom, carriedOf, contactOnA, contactOnB, onFace, faceAOf, faceBOf}
 use Rattle.contacts.specs.EdgePairs.{edgePoint, nearestOf, alongOf, edgeContactOf}
-use Rattle.cached.specs.declared.Cached.{Cached}
-use Rattle.cached.specs.Again.{nearOf, servedOf, separationFromA, separationFromB, cachedFaceAOf, cachedFaceBOf, ridgeOf, carriedRidge, crossesOf, axisBetween, cachedEdgeOf}
+use Rattle.answers.specs.declared.Cached.{Cached}
+use Rattle.ridges.specs.Ridges.{ridgeOf, carriedRidge, crossesOf, axisBetween}
+use Rattle.answers.specs.Served.{nearOf, servedOf}
+use Rattle.cached.specs.Again.{separationFromA, separationFromB, cachedFaceAOf, cachedFaceBOf, cachedEdgeOf}
 use Rattle.full.specs.Full.{triesEdge, pairContact, contactA, contactB, winnerContact, insteadOf, withEdge, foundContact, apartBuilt, afterSearch, fullOf}
-use Rattle.full.specs.Manual.{unchanged, afterFaceA, afterFaceB, pairOrNone, afterEdge, manualFaceAOf, manualFaceBOf, manualEdgeOf}
-use Rattle.collide.specs.Refusals.{refusalOf}
-use Rattle.collide.specs.Call.{answerOf, afterCached, workedOf, collideOf}
+use Rattle.manual.specs.Manual.{unchanged, afterFaceA, afterFaceB, pairOrNone, afterEdge, manualFaceAOf, manualFaceBOf, manualEdgeOf}
+use Rattle.refusals.specs.Refusals.{refusalOf}
+use Rattle.answers.specs.Answers.{answerOf}
+use Rattle.collide.specs.Call.{afterCached, workedOf, collideOf}
 use Rattle.promises.specs.Sources.{on-face-a, on-face-b, of-edges, of-none, Drawn}
 
 -- ---- images that are carried are chosen as before

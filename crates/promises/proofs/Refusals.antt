@@ -18,11 +18,12 @@ use Rattle.manifold.specs.Records.{emptyContact}
 use Rattle.links.specs.declared.HullSize.{HullSize}
 use Rattle.links.proofs.Tests.{cases}
 use Rattle.hull.specs.Rule8.{brokenRule, transformRight}
-use Rattle.collide.specs.Refusals.{cacheRight, refusalOf}
-use Rattle.collide.specs.Call.{accepted, collideOf}
+use Rattle.refusals.specs.Refusals.{cacheRight, refusalOf}
+use Rattle.answers.specs.Answers.{accepted}
+use Rattle.collide.specs.Call.{collideOf}
 use Rattle.contactlib.specs.Lent.{Called}
 use Rattle.contactlib.proofs.Keeps.{keeps-call}
-use Rattle.collide.proofs.Steps.{refuses-1, refuses-2, refuses-3, refuses-4, unrefused}
+use Rattle.refusals.proofs.Cases.{refuses-1, refuses-2, refuses-3, refuses-4, unrefused}
 use Rattle.promises.specs.Numbers.{Exactly, workMeets, numberOf}
 use Rattle.promises.proofs.Statuses.{call-status}
 use Rattle.promises.proofs.Later.{broken-at, work-late, work-not-7}

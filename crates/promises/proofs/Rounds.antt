@@ -17,7 +17,7 @@ use Rattle.hull.specs.Rule8.{brokenRule}
 use Rattle.hull.proofs.Accepted.{accepted}
 use Rattle.collide.specs.Call.{collideOf}
 use Rattle.contactlib.specs.Lent.{Called}
-use Rattle.collide.proofs.Steps.{unrefused}
+use Rattle.refusals.proofs.Cases.{unrefused}
 use Rattle.promises.proofs.Refusals.{none-given}
 
 -- ---- a hull that the validator accepts

@@ -27,16 +27,19 @@ use Rattle.axis.specs.declared.Axis.{Axis}
 use Rattle.axis.specs.declared.EdgeAxis.{EdgeAxis}
 use Rattle.axis.specs.declared.Search.{Search}
 use Rattle.axis.specs.Meaning.{statusOf}
-use Rattle.contacts.specs.declared.Built.{Built}
-use Rattle.contacts.specs.Builds.{touchedOf, refusedAt}
+use Rattle.builds.specs.declared.Built.{Built}
+use Rattle.builds.specs.Builds.{touchedOf, refusedAt}
 use Rattle.contacts.specs.Faces.{onFace, faceAOf, faceBOf}
 use Rattle.contacts.specs.EdgePairs.{nearestOf, alongOf, edgeContactOf}
-use Rattle.cached.specs.declared.Cached.{Cached}
-use Rattle.cached.specs.Again.{nearOf, servedOf, separationFromA, separationFromB, cachedFaceAOf, cachedFaceBOf, ridgeOf, carriedRidge, crossesOf, axisBetween, cachedEdgeOf}
+use Rattle.answers.specs.declared.Cached.{Cached}
+use Rattle.ridges.specs.Ridges.{ridgeOf, carriedRidge, crossesOf, axisBetween}
+use Rattle.answers.specs.Served.{nearOf, servedOf}
+use Rattle.cached.specs.Again.{separationFromA, separationFromB, cachedFaceAOf, cachedFaceBOf, cachedEdgeOf}
 use Rattle.full.specs.Full.{apartBuilt, triesEdge, pairContact, contactA, contactB, winnerContact, insteadOf, withEdge, foundContact, afterSearch, fullOf}
-use Rattle.full.specs.Manual.{unchanged, afterFaceA, afterFaceB, pairOrNone, afterEdge, manualFaceAOf, manualFaceBOf, manualEdgeOf}
-use Rattle.collide.specs.Refusals.{refusalOf}
-use Rattle.collide.specs.Call.{answerOf, afterCached, workedOf, collideOf}
+use Rattle.manual.specs.Manual.{unchanged, afterFaceA, afterFaceB, pairOrNone, afterEdge, manualFaceAOf, manualFaceBOf, manualEdgeOf}
+use Rattle.refusals.specs.Refusals.{refusalOf}
+use Rattle.answers.specs.Answers.{answerOf}
+use Rattle.collide.specs.Call.{afterCached, workedOf, collideOf}
 use Rattle.promises.specs.Numbers.{firstGiven, faceMeets, meetsOnA, meetsOnB, axisMeetsA, axisMeetsB, winnerMeets, searchMeetsA, searchMeetsB, fullMeets, cachedMeetsA, cachedMeetsB, workMeets, numberOf}
 
 -- ---- the status of a choice, of what is built, of what is cached and of an answer

@@ -24,11 +24,13 @@ use Rattle.axis.specs.declared.Search.{Search}
 use Rattle.axis.specs.declared.Wanted.{Wanted}
 use Rattle.axis.specs.Search.{searchOf}
 use Rattle.axis.specs.Meaning.{cacheOf}
-use Rattle.cached.specs.declared.Cached.{Cached}
-use Rattle.cached.specs.Again.{separationFromA, separationFromB, ridgeOf, carriedRidge, crossesOf, axisBetween, cachedFaceAOf, cachedFaceBOf, cachedEdgeOf}
+use Rattle.answers.specs.declared.Cached.{Cached}
+use Rattle.ridges.specs.Ridges.{ridgeOf, carriedRidge, crossesOf, axisBetween}
+use Rattle.cached.specs.Again.{separationFromA, separationFromB, cachedFaceAOf, cachedFaceBOf, cachedEdgeOf}
 use Rattle.full.specs.Full.{apartBuilt, afterSearch, fullOf}
-use Rattle.collide.specs.Refusals.{refusalOf}
-use Rattle.collide.specs.Call.{accepted, answerOf, afterCached, collideOf}
+use Rattle.refusals.specs.Refusals.{refusalOf}
+use Rattle.answers.specs.Answers.{accepted, answerOf}
+use Rattle.collide.specs.Call.{afterCached, collideOf}
 use Rattle.contactlib.specs.Lent.{Called}
 use Rattle.collide.proofs.Steps.{call-worked, cached-hit, at-2, at-3, at-4, at-rest}
 

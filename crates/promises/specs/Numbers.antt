@@ -23,7 +23,7 @@ use Rattle.axis.specs.declared.Wanted.{Wanted}
 use Rattle.axis.specs.Search.{searchOf}
 use Rattle.axis.specs.Meaning.{statusOf}
 use Rattle.cached.specs.Again.{deepestBelowA, deepestBelowB, separationFromA, separationFromB, cachedFaceAOf, cachedFaceBOf, cachedEdgeOf}
-use Rattle.collide.specs.Refusals.{refusalOf}
+use Rattle.refusals.specs.Refusals.{refusalOf}
 
 -- the first of two numbers that is given; 0 is none
 unfoldable pub firstGiven : ℕ → ℕ → ℕ

@@ -8,7 +8,8 @@ use Rattle.links.specs.Tests.{_&_, _or_, implies, all, firstBroken}
 use Rattle.links.specs.Walks.{has, firsts, until, ring}
 use Rattle.links.specs.Rules.{h1, vertexInRange, edgeInRange, faceInRange, h2, twinsAt, h3, linkedAt, h4, newNext, h5, ringHolds, ringRight, h6, fanHolds, fanRight, h7}
 use Rattle.hull.specs.Numbers.{boxOf, vertexAt, planeAt}
-use Rattle.hull.specs.Rule8.{inside, small, moderate, nearOne, apart, finiteAt, smallAt, inBox, vertexInBox, planeRight, planeRightAt, endsApart, edgeLong, h8, brokenRule}
+use Rattle.measures.specs.Measures.{inside, small, moderate, nearOne, apart, inBox, planeRight, endsApart}
+use Rattle.hull.specs.Rule8.{finiteAt, smallAt, vertexInBox, planeRightAt, edgeLong, h8, brokenRule}
 use Rattle.samples.proofs.Shapes.{Sample, tetrahedron, cube, log, pyramid}
 
 abbrev answer : Sample → ℕ

@@ -10,8 +10,8 @@ use lib.Seq.{length-take-le, getD-take, getD-append-seam}
 use Rattle.leads.specs.declared.Lead.{Lead}
 use Rattle.leads.specs.Leads.{leadAfter}
 use Rattle.leads.proofs.Searches.{same-steps}
-use Rattle.sift.specs.Sift.{passing, upTo}
-use Rattle.sift.proofs.Passing.{passing-snoc}
+use Rattle.marks.specs.Marks.{passing, upTo}
+use Rattle.marks.proofs.Passing.{passing-snoc}
 
 same-cond : {A : Type 0} (z : Bool) (a : A) → cond z a a ≡ a
 same-cond true a = refl

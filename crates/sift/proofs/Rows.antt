@@ -19,8 +19,9 @@ use Rattle.edges.specs.Edges.{dotRight, edgeOfA, passesOf, triedOf, pairOf, row
 use Rattle.tables.specs.Lists.{Three, Row}
 use Rattle.tables.specs.Fills.{Filled, dotAt}
 use Rattle.tables.proofs.Lists.{row-made, row-same}
-use Rattle.sift.specs.Sift.{atLeastEps, failsFirst, failsLater, passing, upTo}
-use Rattle.sift.proofs.Passing.{Below, below-up, below-passing, front-below}
+use Rattle.marks.specs.Marks.{atLeastEps, failsFirst, passing, upTo}
+use Rattle.sift.specs.Sift.{failsLater}
+use Rattle.marks.proofs.Passing.{Below, below-up, below-passing, front-below}
 use Rattle.sift.specs.Rows.{triedAt, RowReady}
 use Rattle.sift.proofs.Products.{dot-turns}
 use Rattle.sift.proofs.Passed.{none-pass, some-pass}

@@ -1,24 +1,13 @@
--- The numbers of A's edges that pass the tests of signs against one edge of B, in their order. Definitions only.
-use Prim.Native.Nat.{ℕ, zero, suc, _+_, _*_, _<_}
-use mathlib.Core.Bool.{Bool, cond, _||_}
-use mathlib.Core.List.{List, [], _∷_, _++_}
-use mathlib.Core.Path.{_≡_}
-use lib.Dec.{eqb}
-use lib.ListN.{length, getD}
-use lib.Ieee as Ieee
+-- The other two tests of signs of an edge of A against one edge of B. Definitions only; the first is in the specs of `marks`.
+use Prim.Native.Nat.{ℕ, _+_, _*_}
+use mathlib.Core.Bool.{Bool, _||_}
+use mathlib.Core.List.{List}
+use lib.ListN.{getD}
 use lib.Ieee.{Float, nan}
 use Rattle.vector.specs.Rounded.{_⊗_}
 use Rattle.links.specs.declared.HullSize.{HullSize}
 use Rattle.links.specs.Links.{face}
-use Rattle.edges.specs.Edges.{eps}
-
--- a product at or above -0.0001
-unfoldable pub atLeastEps : Float → Bool
-atLeastEps x = Ieee.le eps x
-
--- edge i fails the first test: cba * dba, which stand in the table from p and from q on
-unfoldable pub failsFirst : List Float → ℕ → ℕ → ℕ → Bool
-failsFirst table p q i = atLeastEps (getD table (p + i) nan ⊗ getD table (q + i) nan)
+use Rattle.marks.specs.Marks.{atLeastEps}
 
 -- edge i fails one of the other two: adc * bdc, cba * bdc. adc and bdc stand by A's faces
 unfoldable pub failsLater : List Float → ℕ → List Float → HullSize → List ℕ → ℕ → Bool
@@ -26,23 +15,3 @@ failsLater table p along s l i =
     let adc = getD along (face s l (2 * i)) nan in
     let bdc = getD along (face s l (2 * i + 1)) nan in
     atLeastEps (adc ⊗ bdc) || atLeastEps (getD table (p + i) nan ⊗ bdc)
-
--- the numbers of a list that do not fail, in their order
-unfoldable pub passing : (ℕ → Bool) → List ℕ → List ℕ
-passing fails [] = []
-passing fails (i ∷ is) = cond (fails i) (passing fails is) (i ∷ passing fails is)
-
--- 0 to n - 1
-unfoldable pub upTo : ℕ → List ℕ
-upTo zero = []
-upTo (suc n) = upTo n ++ (n ∷ [])
-
--- what the first pass leaves: for each number below n, 0 where it fails and 1 where it passes; the count says how many pass
-pub record Marked (fails : ℕ → Bool) (n count : ℕ) (marks : List ℕ) : Type 0 where
-  pub long : length marks ≡ 128
-  pub each : (k : ℕ) → k < n → getD marks k 0 ≡ cond (fails k) 0 1
-  pub counted : count ≡ length (passing fails (upTo n))
-
--- number k has no mark
-unfoldable pub unmarked : List ℕ → ℕ → Bool
-unmarked marks k = eqb (getD marks k 0) 0

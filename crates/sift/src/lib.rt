@@ -1,7 +1,6 @@
-// One edge of B against the edges of A. The pairs that pass the tests of signs are found without a branch: first by the dots of B's two normals along A's edges, then,
-// of those that are left, by the dots of A's normals along B's edge. A number is put where the next one kept will stand, and kept by moving on only where it passes.
-// The axis is worked out for the pairs that pass all tests alone.
-ghost use mathlib.Core.Bool.{false, cond};
+// One edge of B against the edges of A. Of those that pass the first test of signs (crate `marks`), the ones that pass the other two are found without a branch, by the dots
+// of A's normals along B's edge. The axis is worked out for the pairs that pass all tests alone.
+ghost use mathlib.Core.Bool.{false};
 ghost use mathlib.Core.Path.{_≡_};
 ghost use Prim.Native.Nat.{ℕ, _+_, _*_, _<_, _≤_};
 ghost use lib.ListN.{length, take, getD};
@@ -9,86 +8,14 @@ ghost use Rattle.links.specs.Links.{NumbersFit};
 ghost use Rattle.leads.specs.Leads.{leadAfter};
 ghost use Rattle.edges.specs.Edges.{edgeOfA, rowPairs};
 ghost use Rattle.edges.specs.Ready.{EdgesIn};
-ghost use Rattle.sift.specs.Sift.{atLeastEps, failsFirst, failsLater, passing, upTo, Marked, unmarked};
+ghost use Rattle.marks.specs.Marks.{passing};
+ghost use Rattle.sift.specs.Sift.{failsLater};
 ghost use Rattle.sift.specs.Rows.{triedAt, RowReady};
 use edges::EdgeB;
 use leads::Lead;
 use links::HullSize;
-
-// A product at or above this fails.
-const EPS: f32 = -0.0001;
-
-fn fails(product: f32) -> bool
-    ensures { λ r. ⌜ r ≡ atLeastEps product ⌝ }
-{
-    product >= EPS
-}
-
-// How many are kept, with one more where it does not fail.
-fn advanced(m: usize, failed: bool) -> usize
-    requires { ⌜ m < 128 ⌝ }
-    ensures { λ r. ⌜ r ≡ cond failed m (m + 1) ⌝ }
-{
-    if failed {
-        return m;
-    }
-    m + 1
-}
-
-// 1 where the product passes, else 0.
-fn passes(product: f32) -> u8
-    ensures { λ r. ⌜ (r ≡ cond (atLeastEps product) 0 1) × (r ≤ 1) ⌝ }
-{
-    if fails(product) {
-        return 0;
-    }
-    1
-}
-
-// For each of the edges 0 to n - 1 of A, 1 where it passes the first test and 0 where it fails; the return says how many pass. B's two normals along A's edges stand in
-// the table from p and from q on.
-fn mark(table: &[f32], p: usize, q: usize, n: usize, marks: &mut [u8]) -> u8
-    requires { ⌜ (n ≤ 128) × (p + n ≤ length (now table)) × (q + n ≤ length (now table)) × (length (now marks) ≡ 128) ⌝ }
-    ensures { λ r. ⌜ Marked (failsFirst (now (table .entry)) p q) n r (now (marks .exit)) ⌝ }
-{
-    let mut count = 0u8;
-    let mut i = 0;
-    while i < n {
-        let one = passes(table[p + i] * table[q + i]);
-        marks[i] = one;
-        count += one;
-        i += 1;
-    }
-    count
-}
-
-// The numbers below n that are marked, in their order; the return says how many.
-fn gather(marks: &[u8], n: usize, list: &mut [u8]) -> usize
-    requires { ⌜ (n ≤ 128) × (length (now marks) ≡ 128) × (length (now list) ≡ 128) × ((k : ℕ) → k < n → getD (now marks) k 0 ≤ 1) ⌝ }
-    ensures { λ r. ⌜ (r ≤ n) × (length (now (list .exit)) ≡ 128) × (take r (now (list .exit)) ≡ passing (unmarked (now (marks .entry))) (upTo n)) ⌝ }
-{
-    let mut m = 0;
-    let mut i = 0;
-    while i < n {
-        let k = i as u8;
-        list[m] = k;
-        m += links::wide(marks[i]);
-        i += 1;
-    }
-    m
-}
-
-// Of the edges 0 to n - 1 of A, those that pass the first test, in their order; the return says how many. Marks come first, since they go four at a time and tell whether
-// there is anything to gather: for every other edge of B of two logs that lie flat there is not.
-fn sift(table: &[f32], p: usize, q: usize, n: usize, list: &mut [u8], marks: &mut [u8]) -> usize
-    requires { ⌜ (n ≤ 128) × (p + n ≤ length (now table)) × (q + n ≤ length (now table)) × (length (now list) ≡ 128) × (length (now marks) ≡ 128) ⌝ }
-    ensures { λ r. ⌜ (r ≤ n) × (length (now (list .exit)) ≡ 128) × (length (now (marks .exit)) ≡ 128) × (take r (now (list .exit)) ≡ passing (failsFirst (now (table .entry)) p q) (upTo n)) ⌝ }
-{
-    if mark(table, p, q, n, marks) == 0 {
-        return 0;
-    }
-    gather(marks, n, list)
-}
+use marks::advanced;
+use marks::fails;
 
 // Of the first m edges of the list, those that pass the other two tests, in their order. A's normals along B's edge stand in `along`, by A's faces.
 fn sift_again(
@@ -172,7 +99,7 @@ pub fn scan_row(
     requires { ⌜ RowReady size (now numbers) (now links) n (now normals) b j start (now table) p q × (length (now along) ≡ 128) × (length (now list) ≡ 128) × (length (now out) ≡ 128) ⌝ }
     ensures { λ r. ⌜ (r ≡ rowPairs early (edgeOfA size (now (numbers .entry)) (now (links .entry))) n b j start) × (length (now (along .exit)) ≡ 128) × (length (now (list .exit)) ≡ 128) × (length (now (out .exit)) ≡ 128) ⌝ }
 {
-    let m = sift(table, p, q, n, list, out);
+    let m = marks::sift(table, p, q, n, list, out);
     if m == 0 {
         return start;
     }

@@ -2,8 +2,8 @@
 use mathlib.Core.Path.{ap, _∙_}
 use borrow.Author.Needs.{needs}
 use Rattle.manifold.specs.declared.SatCache.{SatCache}
-use Rattle.contacts.specs.declared.Built.{Built}
-use Rattle.collide.specs.Call.{accepted, answerOf}
+use Rattle.builds.specs.declared.Built.{Built}
+use Rattle.answers.specs.Answers.{accepted, answerOf}
 use Rattle.collide.proofs.Steps.{cached-refused, cached-hit, cached-missed}
 use Rattle.collide.proofs.after_cached.Statement.{statement}
 use Rattle.collide.proofs.after_cached.Tie as tie

@@ -7,9 +7,10 @@ use lib.Signed.{ltZ}
 use lib.IntN.{ℤ, pos}
 use borrow.Author.Needs.{needs}
 use Rattle.manifold.specs.declared.Contact.{Contact}
-use Rattle.collide.specs.Refusals.{refusalOf}
-use Rattle.collide.specs.Call.{accepted, refusedOf}
-use Rattle.collide.proofs.Steps.{too-small, call-refused, call-worked, unrefused}
+use Rattle.refusals.specs.Refusals.{refusalOf}
+use Rattle.answers.specs.Answers.{accepted, refusedOf}
+use Rattle.refusals.proofs.Cases.{unrefused}
+use Rattle.collide.proofs.Steps.{too-small, call-refused, call-worked}
 use mir.Syntax.{w32}
 use mir.Val.{toZ, ofZ}
 use mir.ValLaws.{toZ-ofZ}

@@ -2,10 +2,12 @@
 use mathlib.Core.Path.{ap, _∙_}
 use mathlib.Core.Logic.{⊎-elim}
 use borrow.Author.Needs.{needs}
-use Rattle.contacts.specs.declared.Built.{Built}
-use Rattle.cached.specs.declared.Cached.{Cached}
-use Rattle.collide.specs.Call.{answerOf, afterCached}
-use Rattle.collide.proofs.Steps.{face-a-there, face-b-there, edges-there, at-2, at-3, at-4, at-5, at-6, at-7, at-8, at-rest}
+use Rattle.builds.specs.declared.Built.{Built}
+use Rattle.answers.specs.declared.Cached.{Cached}
+use Rattle.answers.specs.Answers.{answerOf}
+use Rattle.collide.specs.Call.{afterCached}
+use Rattle.refusals.proofs.Cases.{face-a-there, face-b-there, edges-there}
+use Rattle.collide.proofs.Steps.{at-2, at-3, at-4, at-5, at-6, at-7, at-8, at-rest}
 use Rattle.collide.proofs.worked.Statement.{statement}
 use Rattle.collide.proofs.worked.Tie as tie
 

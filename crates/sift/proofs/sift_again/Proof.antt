@@ -1,6 +1,6 @@
 -- The loop keeps `Sifted` of the part of the list that is behind it.
 use Rattle.sift.proofs.Reach.{face-low, in-row}
-use Rattle.sift.proofs.Sifting.{Sifted, list-begins, list-goes-on, list-ends}
+use Rattle.marks.proofs.Sifting.{Sifted, list-begins, list-goes-on, list-ends}
 use Rattle.sift.specs.Sift.{failsLater}
 use borrow.Author.Needs.{needs}
 use native.Mathlib.Omega.{arith}

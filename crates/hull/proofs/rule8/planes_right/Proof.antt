@@ -5,7 +5,8 @@ use native.Mathlib.Omega.{arith}
 use borrow.Author.Needs.{needs}
 use Rattle.links.specs.Tests.{all}
 use Rattle.links.proofs.Tests.{all-none, all-and, all-end}
-use Rattle.hull.specs.Rule8.{planeRight, planeRightAt}
+use Rattle.measures.specs.Measures.{planeRight}
+use Rattle.hull.specs.Rule8.{planeRightAt}
 use Rattle.hull.proofs.rule8.planes_right.Statement.{statement}
 use Rattle.hull.proofs.rule8.planes_right.Tie as tie
 

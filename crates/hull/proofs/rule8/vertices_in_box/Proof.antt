@@ -5,7 +5,8 @@ use native.Mathlib.Omega.{arith}
 use borrow.Author.Needs.{needs}
 use Rattle.links.specs.Tests.{all}
 use Rattle.links.proofs.Tests.{all-none, all-and, all-end}
-use Rattle.hull.specs.Rule8.{inBox, vertexInBox}
+use Rattle.measures.specs.Measures.{inBox}
+use Rattle.hull.specs.Rule8.{vertexInBox}
 use Rattle.hull.proofs.rule8.vertices_in_box.Statement.{statement}
 use Rattle.hull.proofs.rule8.vertices_in_box.Tie as tie
 

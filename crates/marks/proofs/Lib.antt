@@ -1,0 +1,3 @@
+pub mod Passing
+pub mod Sifting
+pub mod Marking
