@@ -21,8 +21,9 @@ use Rattle.links.specs.Rules.{h1}
 use Rattle.links.proofs.Tests.{cases, breaks}
 use Rattle.links.proofs.Facts.{unfit}
 use Rattle.hull.specs.Rule8.{brokenRule, transformRight}
-use Rattle.collide.specs.Refusals.{cacheRight, refusalOf}
-use Rattle.collide.specs.Call.{accepted, refusedOf, collideOf}
+use Rattle.refusals.specs.Refusals.{cacheRight, refusalOf}
+use Rattle.answers.specs.Answers.{accepted, refusedOf}
+use Rattle.collide.specs.Call.{collideOf}
 use Rattle.encode.proofs.Written.{front, wrote-length}
 use Rattle.decode.specs.Fields.{sizeAt, transformAt, capacityAt, cacheAt}
 use Rattle.decode.specs.Hulls.{linksFrom, planesAt, hullLength, takenOf, numbersOf, linksOf, Taken}
