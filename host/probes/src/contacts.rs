@@ -1,10 +1,9 @@
 //! The cuts of a polygon, the picks of at most four points, and the candidates of a face contact.
 
-use super::{first_broken_rule, FeaturePair, HullSize, Places, Plane, Transform, Vec3};
+use super::{first_broken_rule, Contact, FeaturePair, HullSize, Places, Plane, Transform, Vec3};
 
-/// The most corners of a polygon, and the most points of a contact.
+/// The most corners of a polygon.
 pub const MAX_CLIP_POINTS: usize = 64;
-pub const MAX_MANIFOLD_POINTS: usize = 4;
 
 /// A corner of a polygon, or a candidate, with its distance from the reference face.
 #[derive(Debug, Clone, Copy)]
@@ -29,23 +28,6 @@ pub struct Polygon {
 pub struct Clipped {
     pub polygon: Polygon,
     pub full: bool,
-}
-
-#[derive(Debug, Clone, Copy)]
-#[repr(C)]
-pub struct Point {
-    pub position: Vec3,
-    pub separation: f32,
-    pub pair: FeaturePair,
-}
-
-/// The places at and above the count are zero, and so is the normal where the count is 0.
-#[derive(Debug, Clone, Copy)]
-#[repr(C)]
-pub struct Contact {
-    pub points: [Point; MAX_MANIFOLD_POINTS],
-    pub normal: Vec3,
-    pub count: u8,
 }
 
 pub(super) mod linked {

@@ -3,44 +3,15 @@
 //! tested here.
 
 mod axes;
-mod calls;
 mod contacts;
 mod places;
 
 pub use axes::*;
-pub use calls::*;
 pub use contacts::*;
 pub use places::*;
-
-/// Three numbers.
-#[derive(Debug, Clone, Copy)]
-#[repr(C)]
-pub struct Vec3 {
-    pub x: f32,
-    pub y: f32,
-    pub z: f32,
-}
-
-#[derive(Debug, Clone, Copy)]
-#[repr(C)]
-pub struct Quat {
-    pub v: Vec3,
-    pub s: f32,
-}
-
-#[derive(Debug, Clone, Copy)]
-#[repr(C)]
-pub struct Transform {
-    pub p: Vec3,
-    pub q: Quat,
-}
-
-#[derive(Debug, Clone, Copy)]
-#[repr(C)]
-pub struct Plane {
-    pub normal: Vec3,
-    pub offset: f32,
-}
+pub use records::{
+    Contact, FeaturePair, HullSize, Plane, Point, Quat, Transform, Vec3, MAX_MANIFOLD_POINTS,
+};
 
 #[derive(Debug, Clone, Copy)]
 #[repr(C)]
@@ -115,15 +86,6 @@ pub struct FloatW {
     pub w: f32,
 }
 
-#[derive(Debug, Clone, Copy, PartialEq, Eq)]
-#[repr(C)]
-pub struct FeaturePair {
-    pub owner1: u8,
-    pub index1: u8,
-    pub owner2: u8,
-    pub index2: u8,
-}
-
 /// A flipped pair, or refusal 8 and four zeros.
 #[derive(Debug, Clone, Copy, PartialEq, Eq)]
 #[repr(C)]
@@ -139,15 +101,6 @@ pub struct Limits {
     pub speculative: f32,
     pub huge: f32,
     pub units: f32,
-}
-
-/// How many vertices, half-edges and faces a hull has.
-#[derive(Debug, Clone, Copy, PartialEq, Eq)]
-#[repr(C)]
-pub struct HullSize {
-    pub vertices: usize,
-    pub half_edges: usize,
-    pub faces: usize,
 }
 
 mod linked {

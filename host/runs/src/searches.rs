@@ -1,6 +1,6 @@
 //! The answer of the axis search that the text's query stands for, and the comparison of two answers.
 
-use crate::{convert, same};
+use cases::{convert, same};
 use oracle::core::NULL_INDEX;
 use oracle::open::{AxisQuery, SeparatingAxis, SeparatingFeature};
 use probes::{Axis, Searched, Vec3, APART, FOUND, NO_FACE, WANT_FACE_A, WANT_FACE_B, WANT_NO_FACE};

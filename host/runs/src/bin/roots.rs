@@ -3,7 +3,7 @@
 //!     roots sample [SEED]   every exponent, both ends of each, and eight million random patterns
 //!     roots all             all 2^32 patterns
 
-use runs::{number_argument, Numbers, Tally};
+use cases::{number_argument, Numbers, Tally};
 use std::time::Instant;
 
 const RANDOM: u64 = 8_000_000;

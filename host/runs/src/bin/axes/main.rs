@@ -12,8 +12,8 @@ mod text;
 
 #[cfg(rust_text)]
 fn main() {
-    let mut numbers = runs::Numbers::new(runs::number_argument(1, "SEED", 1));
-    let count = runs::number_argument(2, "COUNT", 10_000) as usize;
+    let mut numbers = cases::Numbers::new(cases::number_argument(1, "SEED", 1));
+    let count = cases::number_argument(2, "COUNT", 10_000) as usize;
     let good = text::run(&mut numbers, count);
     std::process::exit(if good { 0 } else { 1 });
 }

@@ -1,11 +1,12 @@
 //! What is held to the Rust text itself.
 
+use cases::pairs::Pair;
+use cases::sorts::{acceptable, SORTS};
+use cases::{convert, met, one_in, Numbers, Tally};
 use oracle::open::{search, AxisQuery, SeparatingFeature};
 use probes::{Placed, WANT_FACE_A, WANT_FACE_B, WANT_NO_FACE};
-use runs::pairs::{accepted, Pair};
+use runs::accepted;
 use runs::searches::{answer, same_answers};
-use runs::sorts::{acceptable, SORTS};
-use runs::{convert, met, one_in, Numbers, Tally};
 
 #[derive(Default)]
 struct Met {

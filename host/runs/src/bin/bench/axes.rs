@@ -3,15 +3,15 @@
 //! were judged before.
 
 use super::{head, line_of, timed_calls};
+use cases::convert;
+use cases::settled::{Class, Stack};
+use cases::Numbers;
 use oracle::hull::HullData;
 use oracle::math_functions as reading;
 use oracle::open::{search, AxisQuery, SeparatingFeature};
 use probes::{Accepted, Placed, Searched, APART};
-use runs::convert;
-use runs::pairs::accepted;
+use runs::accepted;
 use runs::searches::{answer, same_answers};
-use runs::settled::{Class, Stack};
-use runs::Numbers;
 
 const LOGS: usize = 64;
 const PAIRS: usize = 2000;

@@ -4,14 +4,15 @@
 //! once a batch, so that its line is the mean over the true shares.
 
 use super::{head, least_of, row, timed_calls};
+use cases::calls::{same_answers, Answer, Call};
+use cases::pairs::moved;
+use cases::settled::{Class, Pair, Stack};
+use cases::{convert, Numbers};
 use oracle::hull::HullData;
 use oracle::math_functions as reading;
 use oracle::open::{self, collide_hulls, search, LocalManifold, SeparatingFeature};
-use probes::{first_broken_rule, Answer, Lent, Transform};
-use runs::calls::{same_answers, Call, NO_CACHE};
-use runs::pairs::{lent, moved};
-use runs::settled::{Class, Pair, Stack};
-use runs::{convert, Numbers};
+use probes::first_broken_rule;
+use records::{Hull, SatCache, Transform};
 
 const LOGS: usize = 64;
 const PAIRS: usize = 2000;
@@ -36,7 +37,7 @@ struct Timed<'a> {
 impl<'a> Timed<'a> {
     /// Panics where the two sides differ.
     fn new(class: Class, ours: Call<'a>, hulls: (&'a HullData, &'a HullData)) -> Self {
-        let answer = ours.ours();
+        let answer = runs::ours(&ours);
         let wanted = ours.wanted();
         assert!(same_answers(&answer, &wanted), "{answer:?}, {wanted:?}");
         Timed {
@@ -50,7 +51,7 @@ impl<'a> Timed<'a> {
 
     /// How many points.
     fn ours(&self) -> usize {
-        self.ours.ours().outcome.contact.count.into()
+        runs::ours(&self.ours).outcome.contact.count.into()
     }
 
     fn theirs(&self, manifold: &mut LocalManifold) -> usize {
@@ -62,7 +63,7 @@ impl<'a> Timed<'a> {
 
     /// How many of the two hulls are good.
     fn judged(&self) -> usize {
-        let good = |hull: Lent| first_broken_rule(hull.numbers, hull.links, hull.size) == 0;
+        let good = |hull: Hull| first_broken_rule(hull.numbers(), hull.links(), hull.size()) == 0;
         usize::from(good(self.ours.a)) + usize::from(good(self.ours.b))
     }
 }
@@ -73,12 +74,12 @@ pub fn run(n: &mut Numbers) {
     let (mut cold, mut warm) = (Vec::new(), Vec::new());
     for pair in &stack.pairs {
         let of_pair = (&hulls[pair.a], &hulls[pair.b]);
-        let mut cache = NO_CACHE;
+        let mut cache = SatCache::EMPTY;
         for (frame, transform) in frames(pair, of_pair, n).into_iter().enumerate() {
             let call = Call {
                 capacity: 4,
-                a: lent(&stack.logs[pair.a]),
-                b: lent(&stack.logs[pair.b]),
+                a: stack.logs[pair.a].lent(),
+                b: stack.logs[pair.b].lent(),
                 transform,
                 cache,
             };

@@ -4,16 +4,17 @@
 //! come out is the same on both sides.
 
 use super::{head, line, timed};
+use cases::convert;
+use cases::inputs::rounded;
+use cases::shapes::solids::{block, frame, frustum, polygon};
+use cases::shapes::Shape;
+use cases::Numbers;
 use oracle::hull::HullData;
 use oracle::math_functions::{self as reading, arbitrary_perp, dot};
 use oracle::open::{search, Buffers, LocalManifoldPoint, Prepared};
 use oracle::transcribed::FaceCuts;
 use probes::{Accepted, ClipVertex, FeaturePair, Places, Plane, Polygon, Quat, Transform, Vec3};
-use runs::convert;
-use runs::inputs::rounded;
-use runs::shapes::solids::{block, frame, frustum, polygon};
-use runs::shapes::Shape;
-use runs::Numbers;
+use runs::corners;
 use std::cell::RefCell;
 use std::f64::consts::TAU;
 
@@ -118,7 +119,7 @@ fn cuts(size: usize, n: &mut Numbers) {
             let (high, second) = (heights[size - 1], heights[size - 2]);
             Cut {
                 places: RefCell::new(Places::new(&Polygon::new(&corners))),
-                prepared: Prepared::new(&convert::corners(&corners)),
+                prepared: Prepared::new(&corners::corners(&corners)),
                 plane: Plane {
                     normal: outward,
                     offset: [0.0, (high + second) / 2.0, 2.0][i % 3],
@@ -159,7 +160,7 @@ fn reductions(size: usize, rounds: usize, n: &mut Numbers) {
             let normal = reference.normal;
             Reduction {
                 polygon: Polygon::new(&candidates),
-                points: convert::points(&candidates),
+                points: corners::points(&candidates),
                 normal,
                 direction: convert::ours(arbitrary_perp(convert::vector(normal))),
             }

@@ -3,7 +3,7 @@
 //!
 //!     bench
 
-use runs::Numbers;
+use cases::Numbers;
 use std::hint::black_box;
 use std::time::Instant;
 

@@ -1,7 +1,7 @@
 //! The square root beside the processor's own.
 
 use super::{head, line};
-use runs::Numbers;
+use cases::Numbers;
 use std::hint::black_box;
 use std::time::Instant;
 

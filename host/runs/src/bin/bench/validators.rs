@@ -1,11 +1,11 @@
 //! The validator beside the second one.
 
 use super::{head, line, timed, CALLS};
+use cases::shapes::kinds::any_log;
+use cases::shapes::solids::{block, frustum, polygon, pyramid};
+use cases::shapes::Shape;
+use cases::Numbers;
 use probes::HullSize;
-use runs::shapes::kinds::any_log;
-use runs::shapes::solids::{block, frustum, polygon, pyramid};
-use runs::shapes::Shape;
-use runs::Numbers;
 
 /// Good hulls, so that every rule is gone through.
 pub fn run(numbers: &mut Numbers) {

@@ -7,9 +7,8 @@
 //! answer differs or such a case was not met often enough, as with a COUNT below 300. Without the text its part is left
 //! out, and said so.
 
-use runs::{number_argument, Numbers};
+use cases::{number_argument, Numbers};
 
-mod caches;
 mod marked;
 mod refusals;
 #[cfg(rust_text)]

@@ -1,26 +1,32 @@
 //! Document 01's runs of a call: two cubes of half-size 1, and a 64-gon that loses one corner.
 
-use probes::{collide, Answer, Quat, SatCache, Transform, Vec3};
-use runs::calls::{empty, same_answers, NO_CACHE};
-use runs::pairs::lent;
-use runs::shapes::solids::{block, pyramid};
-use runs::shapes::Shape;
-use runs::Tally;
+use cases::calls::{empty, same_answers, Answer, Call};
+use cases::shapes::solids::{block, pyramid};
+use cases::shapes::Shape;
+use cases::Tally;
+use records::{Quat, SatCache, Transform, Vec3};
+use runs::ours;
 
 /// The face of a block that looks along z.
 const TOP: u8 = 5;
 
 /// Not turned.
 fn at([x, y, z]: [f32; 3]) -> Transform {
-    let zero = Vec3 {
-        x: 0.0,
-        y: 0.0,
-        z: 0.0,
-    };
     Transform {
         p: Vec3 { x, y, z },
-        q: Quat { v: zero, s: 1.0 },
+        q: Quat::IDENTITY,
     }
+}
+
+/// The proved answer.
+fn collide(capacity: i32, a: &Shape, b: &Shape, by: [f32; 3], cache: SatCache) -> Answer {
+    ours(&Call {
+        capacity,
+        a: a.lent(),
+        b: b.lent(),
+        transform: at(by),
+        cache,
+    })
 }
 
 pub fn rows() -> Tally {
@@ -35,15 +41,12 @@ pub fn rows() -> Tally {
 /// Faces -x, +x first.
 fn cubes(t: &mut Tally) {
     let cube = Shape::new(&block([1.0; 3]));
-    let call = |capacity, x, cache| {
-        let (a, b) = (lent(&cube), lent(&cube));
-        collide(capacity, a, b, at([x, 0.0, 0.0]), cache)
-    };
+    let call = |capacity, x, cache| collide(capacity, &cube, &cube, [x, 0.0, 0.0], cache);
     let mut row = |what: &str, answer: Answer, right: bool| {
         t.compare(right, || format!("{what}: {answer:?}"));
     };
 
-    let apart = call(4, 3.0, NO_CACHE);
+    let apart = call(4, 3.0, SatCache::EMPTY);
     let wanted = SatCache {
         separation: 1f32.to_bits(),
         kind: 2,
@@ -61,7 +64,7 @@ fn cubes(t: &mut Tally) {
     let right = same_answers(&again, &empty(0, wanted));
     row("B at x = 3 again", again, right);
 
-    let touching = call(4, 2.0, NO_CACHE);
+    let touching = call(4, 2.0, SatCache::EMPTY);
     let contact = touching.outcome.contact;
     let right = (touching.outcome.status, contact.count) == (0, 4)
         && contact.points.iter().all(|point| point.separation == 0.0)
@@ -84,9 +87,9 @@ fn on_a_block(t: &mut Tally, sides: usize, shift: f32, status: u8) {
             index_a: TOP,
             index_b: TOP,
             hit: 9,
-            ..NO_CACHE
+            ..SatCache::EMPTY
         };
-        let answer = collide(4, lent(a), lent(b), at(by), cache);
+        let answer = collide(4, a, b, by, cache);
         let right = if status == 0 {
             (answer.outcome.status, answer.outcome.contact.count) == (0, 4)
         } else {

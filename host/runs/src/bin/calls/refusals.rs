@@ -1,14 +1,13 @@
 //! Refusals before any work, one rule broken or several, and capacities below 4, with which nothing is looked at.
 
-use super::caches;
-use probes::{HullSize, Lent, Quat, Transform, Vec3};
-use runs::calls::{empty, same_answers, Call};
-use runs::inputs::rotation;
-use runs::pairs::lent;
-use runs::shapes::breaks::break_rule;
-use runs::shapes::kinds::COMPACT;
-use runs::shapes::Shape;
-use runs::{met, one_in, Numbers, Tally};
+use cases::calls::{caches, empty, same_answers, Call};
+use cases::inputs::rotation;
+use cases::shapes::breaks::break_rule;
+use cases::shapes::kinds::COMPACT;
+use cases::shapes::Shape;
+use cases::{met, one_in, Numbers, Tally};
+use records::{Hull, HullSize, Quat, Transform, Vec3};
+use runs::ours;
 
 /// What is broken: hull A, hull B, the transform, the cache.
 type Broken = [bool; 4];
@@ -84,12 +83,12 @@ fn one(t: &mut Tally, [a, b, placing, cache]: Broken, number: u8, n: &mut Number
     };
     let call = Call {
         capacity: [4, 5, 100, i32::MAX][n.below(4)],
-        a: lent(&a),
-        b: lent(&b),
+        a: a.lent(),
+        b: b.lent(),
         transform: transform(placing, n),
         cache,
     };
-    let ours = call.ours();
+    let ours = ours(&call);
     let right = call.refusal() == number && same_answers(&ours, &empty(number, cache));
     t.compare(right, || format!("refusal {number}: {ours:?}: {call:?}"));
 }
@@ -99,22 +98,15 @@ fn one(t: &mut Tally, [a, b, placing, cache]: Broken, number: u8, n: &mut Number
 fn capacity(t: &mut Tally, n: &mut Numbers) {
     let shapes = [0; 2].map(|_| hull(n.below(2) == 0, n));
     let sizes = [0, 3, 4, 128, 1 << 40, 1 << 63, usize::MAX];
-    let mut lent_or_not = |shape| {
+    let [a, b] = shapes.each_ref().map(|shape| {
         let mut any_size = || sizes[n.below(sizes.len())];
         let size = HullSize {
             vertices: any_size(),
             half_edges: any_size(),
             faces: any_size(),
         };
-        let (numbers, links) = (&[], &[]);
-        let nothing = Lent {
-            numbers,
-            links,
-            size,
-        };
-        [lent(shape), nothing][n.below(2)]
-    };
-    let (a, b) = (lent_or_not(&shapes[0]), lent_or_not(&shapes[1]));
+        [shape.lent(), Hull::lent(size, &[], &[])][n.below(2)]
+    });
     let below = [i32::MIN, i32::MIN + 1, -5, -4, -1, 0, 1, 2, 3];
     let call = Call {
         capacity: below[n.below(below.len())],
@@ -123,7 +115,7 @@ fn capacity(t: &mut Tally, n: &mut Numbers) {
         transform: transform(n.below(2) == 0, n),
         cache: caches::any(n),
     };
-    let ours = call.ours();
+    let ours = ours(&call);
     t.compare(same_answers(&ours, &empty(0, call.cache)), || {
         format!("capacity below 4: {ours:?}: {call:?}")
     });

@@ -1,18 +1,17 @@
 //! What is held to the Rust text itself.
 
-use crate::caches::{any, naming, NAMING};
-use aims::{aimed, move_to_speculative, near, of_full_search};
+use cases::calls::aims::{aimed, move_to_speculative, near, of_full_search};
+use cases::calls::caches::{any, naming, NAMING};
+use cases::calls::more::{tiny_parts, MORE};
+use cases::calls::{same_answers, Answer, Call, Work};
+use cases::pairs::{moved, Pair};
+use cases::sorts::{acceptable, SORTS};
+use cases::{convert, Numbers, Tally};
 use met::Met;
-use probes::{Answer, SatCache, Transform};
-use runs::calls::{same_answers, Call, Work};
-use runs::pairs::{lent, moved, Pair};
-use runs::sorts::{acceptable, SORTS};
-use runs::{convert, Numbers, Tally};
-use sorts::{tiny_parts, MORE};
+use records::{SatCache, Transform};
+use runs::ours;
 
-mod aims;
 mod met;
-mod sorts;
 
 /// How far B is moved from call to call.
 const STEPS: [f32; 8] = [0.0, 0.0, 1e-6, 1e-4, 1e-3, 4e-3, 0.02, 0.1];
@@ -66,12 +65,12 @@ impl<'a> Held<'a> {
     fn call(&mut self, capacity: i32, cache: SatCache) -> Answer {
         let call = Call {
             capacity,
-            a: lent(&self.pair.a),
-            b: lent(&self.pair.b),
+            a: self.pair.a.lent(),
+            b: self.pair.b.lent(),
             transform: self.transform,
             cache,
         };
-        let (ours, wanted) = (call.ours(), call.wanted());
+        let (ours, wanted) = (ours(&call), call.wanted());
         self.tally.compare(same_answers(&ours, &wanted), || {
             format!("ours {ours:?}, wanted {wanted:?}: {call:?}")
         });

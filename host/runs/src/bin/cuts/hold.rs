@@ -1,7 +1,7 @@
 //! Answers held to lists of corners, place by place.
 
+use cases::same;
 use probes::{ClipVertex, Contact, Point, Polygon, Vec3};
-use runs::same;
 
 fn same_vector(a: Vec3, b: Vec3) -> bool {
     same(a.x, b.x) && same(a.y, b.y) && same(a.z, b.z)

@@ -3,9 +3,9 @@
 
 use super::hold::polygon_is;
 use super::lists;
+use cases::{convert, same, Numbers, Tally, SPECULATIVE};
 use oracle::math_functions::{min_float, mul_sub};
 use probes::ClipVertex;
-use runs::{convert, same, Numbers, Tally, SPECULATIVE};
 
 pub fn images(n: &mut Numbers, count: usize) -> Tally {
     let mut t = Tally::default();
@@ -41,7 +41,7 @@ pub fn touching(n: &mut Numbers) -> Tally {
     let ends = [SPECULATIVE.next_down(), SPECULATIVE, SPECULATIVE.next_up()];
     let any: Vec<f32> = (0..100).map(|_| n.float()).collect();
     for count in (0..=65).chain([usize::MAX]) {
-        for &least in ends.iter().chain(&runs::SPECIAL).chain(&any) {
+        for &least in ends.iter().chain(&cases::SPECIAL).chain(&any) {
             let ours = probes::touching(count, least);
             let apart = count < 3 || least >= SPECULATIVE;
             t.compare(ours != apart, || format!("touching of {count}, {least}"));

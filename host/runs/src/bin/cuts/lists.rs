@@ -1,9 +1,9 @@
 //! Lists of candidates for the picks, each candidate with its own place in the list as its first owner.
 
+use cases::inputs::{rounded, vector};
+use cases::shapes::solids::frame;
+use cases::{Numbers, SPECULATIVE};
 use probes::{ClipVertex, FeaturePair, Polygon, Vec3};
-use runs::inputs::{rounded, vector};
-use runs::shapes::solids::frame;
-use runs::{Numbers, SPECULATIVE};
 use std::f64::consts::TAU;
 
 /// A normal and 0 to 64 candidates, most of them about a plane across it.

@@ -6,7 +6,7 @@
 //! it stands how often the cases that matter were met. The run fails where an answer differs or such a case was not met
 //! often enough, as with a COUNT below 1,000. Without the text its part is left out, and said so.
 
-use runs::{number_argument, Numbers};
+use cases::{number_argument, Numbers};
 
 mod hold;
 mod images;

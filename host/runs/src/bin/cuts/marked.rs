@@ -1,9 +1,9 @@
 //! Document 01's examples of a cut, and the cut that passes through a corner, with the answers that it gives.
 
 use super::hold::polygon_is;
+use cases::shapes::solids::polygon;
+use cases::Tally;
 use probes::{ClipVertex, Clipped, FeaturePair, Plane, Polygon, Vec3};
-use runs::shapes::solids::polygon;
-use runs::Tally;
 
 /// The half-edge that cuts.
 const EDGE: u8 = 9;

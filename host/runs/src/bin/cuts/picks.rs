@@ -2,9 +2,9 @@
 
 use super::hold::contact_is;
 use super::lists;
+use cases::{convert, Numbers, Tally};
 use oracle::math_functions::arbitrary_perp;
 use probes::{ClipVertex, Contact, Polygon, Vec3};
-use runs::{convert, Numbers, Tally};
 
 /// The contact of these candidates; the first pick goes along the text's direction.
 pub fn contact(candidates: &Polygon, normal: Vec3) -> Contact {

@@ -1,6 +1,6 @@
 //! What is held to the Rust text itself.
 
-use runs::Numbers;
+use cases::Numbers;
 
 mod contacts;
 mod cut;

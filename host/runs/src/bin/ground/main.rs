@@ -5,11 +5,11 @@
 //! COUNT inputs of each sort, floats of any sort among them. A difference is shown with its input, our answer and the
 //! Rust's. Without the text its part is left out, and said so.
 
+use cases::convert::{transform as read_transform, vector as read};
+use cases::inputs::{transform, vector};
+use cases::{number_argument, same, Numbers, Tally};
 use oracle::math_functions as reading;
 use probes::{Aabb, Plane, Vec3};
-use runs::convert::{transform as read_transform, vector as read};
-use runs::inputs::{transform, vector};
-use runs::{number_argument, same, Numbers, Tally};
 use std::fmt::Debug;
 
 #[cfg(rust_text)]

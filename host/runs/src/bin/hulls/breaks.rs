@@ -1,8 +1,8 @@
 //! Each rule broken alone, and two together.
 
 use super::{any_shape, Total};
-use runs::shapes::breaks::break_rule;
-use runs::Numbers;
+use cases::shapes::breaks::break_rule;
+use cases::Numbers;
 
 pub fn run(total: &mut Total, n: &mut Numbers, count: usize) {
     for rule in 1..=8 {

@@ -1,9 +1,9 @@
 //! Hulls with damaged numbers: every float in turn, and the ends of each limit of H8.
 
 use super::{any_shape, compact, Total};
-use runs::shapes::kinds::COMPACT;
-use runs::shapes::{Link, Shape};
-use runs::{Numbers, SPECIAL};
+use cases::shapes::kinds::COMPACT;
+use cases::shapes::{Link, Shape};
+use cases::{Numbers, SPECIAL};
 
 /// The limits of H8.
 const LIMITS: [f32; 5] = [4096.0, 8192.0, SHORTEST, LEAST_SUM, MOST_SUM];

@@ -1,11 +1,11 @@
 //! Hulls with damaged links: every byte in turn, the known traps, and maps that are wholly made up.
 
 use super::{any_shape, Total};
+use cases::shapes::breaks::{walks, Break};
+use cases::shapes::kinds::COMPACT;
+use cases::shapes::{Link, Padding, Shape};
+use cases::Numbers;
 use probes::HullSize;
-use runs::shapes::breaks::{walks, Break};
-use runs::shapes::kinds::COMPACT;
-use runs::shapes::{Link, Padding, Shape};
-use runs::Numbers;
 
 /// A name, the change, and the rule that it breaks.
 const TRAPS: [(&str, Break, u8); 8] = [

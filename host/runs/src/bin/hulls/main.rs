@@ -6,10 +6,10 @@
 //! 0 for a good hull or the first broken rule, was met. The run fails where an answer differs, a call runs long, an
 //! answer was never met, or too little was compared.
 
-use runs::shapes::kinds::{COMPACT, STRETCHED};
-use runs::shapes::solids::Solid;
-use runs::shapes::Shape;
-use runs::{number_argument, Numbers};
+use cases::shapes::kinds::{COMPACT, STRETCHED};
+use cases::shapes::solids::Solid;
+use cases::shapes::Shape;
+use cases::{number_argument, Numbers};
 use sort::Total;
 
 mod breaks;

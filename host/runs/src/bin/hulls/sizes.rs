@@ -1,9 +1,9 @@
 //! Sizes about every limit of H1 and far beyond, with lists that fit them and lists that do not.
 
 use super::{any_shape, Total};
+use cases::shapes::Shape;
+use cases::Numbers;
 use probes::HullSize;
-use runs::shapes::Shape;
-use runs::Numbers;
 
 const VERTICES: [usize; 13] = [
     0,

@@ -1,8 +1,8 @@
 //! What a sort of hulls, and the whole run, has compared.
 
+use cases::shapes::Shape;
+use cases::Tally;
 use probes::HullSize;
-use runs::shapes::Shape;
-use runs::Tally;
 use std::fmt::{Debug, Write};
 use std::time::{Duration, Instant};
 

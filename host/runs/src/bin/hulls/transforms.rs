@@ -1,8 +1,8 @@
 //! The rule of a transform in both validators: ends of each limit, special values, anything.
 
 use super::floats::{ends_of_sums, with_sum};
+use cases::{Numbers, Tally, SPECIAL};
 use probes::{Quat, Transform, Vec3};
-use runs::{Numbers, Tally, SPECIAL};
 
 /// Ten comparisons for each of `count`, beside every special value at every place.
 pub fn compare(n: &mut Numbers, count: usize) -> Tally {

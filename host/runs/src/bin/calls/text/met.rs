@@ -1,12 +1,11 @@
 //! How often each way through a call was met.
 
 use cached::{Cached, Edges};
+use cases::calls::{Answer, Call, Work};
+use cases::{met, one_in};
 use full::Full;
 use manual::{ManualEdge, ManualFace};
 use oracle::transcribed::End;
-use probes::Answer;
-use runs::calls::{Call, Work};
-use runs::{met, one_in};
 
 mod cached;
 mod full;

@@ -3,14 +3,15 @@
 
 use crate::hold::{contact_is, polygon_is};
 use crate::picks;
+use cases::pairs::{self, Pair};
+use cases::{convert, inputs, met, one_in, same, Numbers, Tally};
 use oracle::hull::HullData;
 use oracle::math_functions::{mul_sv, Quat, Transform};
 use oracle::open::{collide_hulls, search, LocalManifold, SatCache, SeparatingFeature};
 use oracle::quiet;
 use oracle::transcribed::FaceCuts;
 use probes::{ClipVertex, Clipped, MAX_CLIP_POINTS, MAX_MANIFOLD_POINTS};
-use runs::pairs::{self, accepted, Pair};
-use runs::{convert, inputs, met, one_in, same, Numbers, Tally};
+use runs::{accepted, corners};
 
 /// Both hulls in both records.
 struct Both {
@@ -123,7 +124,7 @@ fn candidates(
     };
     let panics =
         quiet(|| FaceCuts::<64>::default().cut(&both.a, &both.b, transform, i, j)).is_none();
-    let whole: Vec<ClipVertex> = whole.iter().map(convert::our_corner).collect();
+    let whole: Vec<ClipVertex> = whole.iter().map(corners::our_corner).collect();
     let kept = &whole[..whole.len().min(MAX_CLIP_POINTS)];
     let ours = ours(both, transform, face, vertex);
     t.compare(
@@ -169,7 +170,7 @@ fn whole(t: &mut Tally, m: &mut Met, both: &Both, face: usize, vertex: usize) {
             let images = probes::images(&cut.polygon, normal);
             let contact = picks::contact(&images, normal);
             let made = &manifold.points[..manifold.point_count as usize];
-            let made: Vec<ClipVertex> = made.iter().map(convert::our_point).collect();
+            let made: Vec<ClipVertex> = made.iter().map(corners::our_point).collect();
             let next = (SeparatingFeature::FaceAxisA as u8, face as u8, vertex as u8);
             !cut.full
                 && contact_is(&contact, convert::ours(manifold.normal), &made)

@@ -2,10 +2,11 @@
 
 use super::polygons::{any_plane, cutting, tagged, SORTS};
 use crate::hold::polygon_is;
+use cases::{convert, met, one_in, Numbers, Tally};
 use oracle::math_functions::{plane_separation, Plane};
 use oracle::open;
 use probes::{ClipVertex, Vec3, MAX_CLIP_POINTS};
-use runs::{convert, met, one_in, Numbers, Tally};
+use runs::corners;
 
 #[derive(Default)]
 struct Met {
@@ -29,11 +30,11 @@ pub fn run(n: &mut Numbers, count: usize) -> bool {
             let polygon = tagged(&corners, reference, n);
             let plane = cutting(&corners, n);
             let edge = n.below(256) as u8;
-            let given = convert::corners(polygon.corners());
+            let given = corners::corners(polygon.corners());
             let (to, from) = (convert::plane(plane), convert::plane(reference));
             let theirs = open::clip_polygon(&given, to, edge.into(), from);
             let whole = open::clip_polygon_whole(&given, to, edge.into(), from);
-            let whole: Vec<ClipVertex> = whole.iter().map(convert::our_corner).collect();
+            let whole: Vec<ClipVertex> = whole.iter().map(corners::our_corner).collect();
             let kept = &whole[..whole.len().min(MAX_CLIP_POINTS)];
 
             let ours = probes::clip_polygon(&polygon, plane, edge, reference);

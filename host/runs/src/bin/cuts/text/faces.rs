@@ -2,14 +2,15 @@
 
 use super::polygons::{any_plane, direction};
 use crate::hold::polygon_is;
+use cases::pairs::{long_rings, normal, ring, vertex};
+use cases::shapes::kinds::{Kind, COMPACT, STRETCHED};
+use cases::shapes::{Link, Shape};
+use cases::{convert, inputs, met, one_in, Numbers, Tally};
 use oracle::hull::HullData;
 use oracle::math_functions::*;
 use oracle::{open, quiet};
 use probes::ClipVertex;
-use runs::pairs::{accepted, long_rings, normal, ring, vertex};
-use runs::shapes::kinds::{Kind, COMPACT, STRETCHED};
-use runs::shapes::{Link, Shape};
-use runs::{convert, inputs, met, one_in, Numbers, Tally};
+use runs::{accepted, corners};
 
 /// Normals for each vertex.
 const NORMALS: usize = 12;
@@ -145,7 +146,7 @@ fn polygons(t: &mut Tally, m: &mut Met, shape: &Shape, hull: &HullData, n: &mut 
             let ours = probes::build_polygon(lent, transform, face, reference);
             let to = convert::transform(transform);
             let theirs = open::build_polygon(to, hull, face as i32, convert::plane(reference));
-            let theirs: Vec<ClipVertex> = theirs.iter().map(convert::our_corner).collect();
+            let theirs: Vec<ClipVertex> = theirs.iter().map(corners::our_corner).collect();
             t.compare(polygon_is(&ours, &theirs), || {
                 format!(
                     "face {face} by {transform:?}, {reference:?}: {ours:?}, {theirs:?}: {shape:?}"

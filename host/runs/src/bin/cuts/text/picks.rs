@@ -3,19 +3,20 @@
 use crate::hold::contact_is;
 use crate::lists;
 use crate::picks::contact;
+use cases::{convert, met, one_in, Numbers, Tally};
 use oracle::open;
 use probes::ClipVertex;
-use runs::{convert, met, one_in, Numbers, Tally};
+use runs::corners;
 
 pub fn run(n: &mut Numbers, count: usize) -> bool {
     let mut t = Tally::default();
     let mut made = [0; 5];
     for _ in 0..4 * count {
         let (normal, list) = lists::any(n);
-        let points = convert::points(&list);
+        let points = corners::points(&list);
         let size = list.len() as i32;
         let theirs = open::reduce_manifold_points(convert::vector(normal), &points, size);
-        let theirs: Vec<ClipVertex> = theirs.iter().map(convert::our_point).collect();
+        let theirs: Vec<ClipVertex> = theirs.iter().map(corners::our_point).collect();
         let ours = contact(&lists::lent(&list, n), normal);
         t.compare(contact_is(&ours, normal, &theirs), || {
             format!("points of {list:?} with normal {normal:?}: {ours:?}, {theirs:?}")

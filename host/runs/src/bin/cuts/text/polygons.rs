@@ -1,12 +1,12 @@
 //! Polygons to be cut, and planes that cut them.
 
 use crate::lists::{lent, pair};
+use cases::convert;
+use cases::inputs::{rounded, vector};
+use cases::shapes::solids::frame;
+use cases::Numbers;
 use oracle::math_functions::{dot, plane_separation};
 use probes::{ClipVertex, Plane, Polygon, Vec3};
-use runs::convert;
-use runs::inputs::{rounded, vector};
-use runs::shapes::solids::frame;
-use runs::Numbers;
 use std::f64::consts::TAU;
 
 /// A name and a maker of corners.

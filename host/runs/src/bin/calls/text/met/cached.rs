@@ -1,8 +1,8 @@
 //! The cached axis tried again.
 
+use cases::{met, one_in, SLOP, SPECULATIVE};
 use oracle::transcribed::{Again, End};
-use probes::SatCache;
-use runs::{met, one_in, SLOP, SPECULATIVE};
+use records::SatCache;
 
 /// A cached axis of one type.
 #[derive(Default)]

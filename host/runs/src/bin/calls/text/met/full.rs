@@ -1,9 +1,9 @@
 //! The full search.
 
+use cases::calls::{Answer, Work};
+use cases::{met, one_in, SLOP, SPECULATIVE};
 use oracle::open::{AxisQuery, SeparatingFeature};
-use probes::{Answer, SatCache};
-use runs::calls::Work;
-use runs::{met, one_in, SLOP, SPECULATIVE};
+use records::SatCache;
 
 #[derive(Default)]
 pub struct Full {

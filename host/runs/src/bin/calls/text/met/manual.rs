@@ -1,7 +1,7 @@
 //! The manual searches.
 
-use probes::Answer;
-use runs::{met, one_in};
+use cases::calls::Answer;
+use cases::{met, one_in};
 
 /// For a face of one side.
 #[derive(Default)]

@@ -5,7 +5,6 @@ use crate::shapes::solids::{block, frame, pyramid, two_sided, Solid};
 use crate::shapes::{Link, Shape};
 use crate::{convert, inputs, Numbers};
 use oracle::math_functions::*;
-use probes::{Accepted, Lent};
 use std::f32::consts::TAU;
 
 #[derive(Debug)]
@@ -13,20 +12,6 @@ pub struct Pair {
     pub a: Shape,
     pub b: Shape,
     pub transform: Transform,
-}
-
-/// The shape as the library has accepted it.
-pub fn accepted(shape: &Shape) -> Accepted<'_> {
-    Accepted::new(&shape.numbers, &shape.links, shape.size).expect("the hull is good")
-}
-
-/// The shape as it is lent.
-pub fn lent(shape: &Shape) -> Lent<'_> {
-    Lent {
-        numbers: &shape.numbers,
-        links: &shape.links,
-        size: shape.size,
-    }
 }
 
 /// A polygon of 65 to 122 corners with both its sides, beside a tetrahedron.

@@ -5,7 +5,7 @@ use crate::shapes::solids::{frame, frustum, polygon};
 use crate::shapes::{add, cross, dot, Shape};
 use crate::Numbers;
 use gaps::{touching_at, Body};
-use probes::{Quat, Transform};
+use records::{Quat, Transform};
 use std::f64::consts::{PI, TAU};
 use turns::{after, from_axes, spin, turned, IDENTITY};
 

@@ -1,16 +1,16 @@
 //! Pairs for the call alone.
 
+use super::Work;
+use crate::inputs::rounded;
+use crate::pairs::{self, placed, spin, Pair};
+use crate::shapes::kinds::COMPACT;
+use crate::shapes::solids::{block, frame, pyramid};
+use crate::shapes::Shape;
+use crate::sorts::places::{any_edges, anyhow, edge_on_edge, Spin};
+use crate::sorts::{padded, Sort};
+use crate::{convert, Numbers, SLOP};
 use oracle::math_functions::*;
-use probes::SatCache;
-use runs::calls::{Work, NO_CACHE};
-use runs::inputs::rounded;
-use runs::pairs::{self, placed, spin, Pair};
-use runs::shapes::kinds::COMPACT;
-use runs::shapes::solids::{block, frame, pyramid};
-use runs::shapes::Shape;
-use runs::sorts::places::{any_edges, anyhow, edge_on_edge, Spin};
-use runs::sorts::{padded, Sort};
-use runs::{convert, Numbers, SLOP};
+use records::SatCache;
 use std::cmp::Ordering;
 
 /// Beside those that the searches go through.
@@ -166,7 +166,13 @@ fn edge_beside_face(work: &Work) -> Option<Ordering> {
     } else {
         7
     };
-    let face = work.answer(4, SatCache { kind, ..NO_CACHE });
+    let face = work.answer(
+        4,
+        SatCache {
+            kind,
+            ..SatCache::EMPTY
+        },
+    );
     if query.edge.index_a < 0 || face.outcome.contact.count == 0 {
         return None;
     }

@@ -1,4 +1,4 @@
-//! Passes on whether the oracle has the Rust text, as the cfg `rust_text`.
+//! The build script of the members that use the oracle: passes on whether it has the Rust text, as the cfg `rust_text`.
 
 fn main() {
     println!("cargo::rustc-check-cfg=cfg(rust_text)");

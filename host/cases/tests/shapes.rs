@@ -1,9 +1,9 @@
-//! The hulls of the runs are what their names say, good by the second validator and convex.
+//! The hulls are what their names say, good by the second validator and convex.
 
-use runs::shapes::kinds::{COMPACT, STRETCHED};
-use runs::shapes::solids::*;
-use runs::shapes::{Link, Shape};
-use runs::Numbers;
+use cases::shapes::kinds::{COMPACT, STRETCHED};
+use cases::shapes::solids::*;
+use cases::shapes::{Link, Shape};
+use cases::Numbers;
 
 fn answer(shape: &Shape) -> u8 {
     let size = shape.size;

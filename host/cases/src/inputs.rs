@@ -1,7 +1,7 @@
-//! Vectors and transforms for the runs.
+//! Vectors and transforms.
 
 use crate::Numbers;
-use probes::{Quat, Transform, Vec3};
+use records::{Quat, Transform, Vec3};
 
 /// Floats of any sort.
 pub fn vector(n: &mut Numbers) -> Vec3 {

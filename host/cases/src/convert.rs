@@ -1,7 +1,7 @@
 //! The same values in the records of the readings and of the Rust text.
 
 use oracle::math_functions as reading;
-use probes::{Plane, Quat, Transform, Vec3};
+use records::{Plane, Quat, Transform, Vec3};
 
 pub fn vector(v: Vec3) -> reading::Vec3 {
     reading::Vec3 {
@@ -55,13 +55,13 @@ pub use text::*;
 
 #[cfg(rust_text)]
 mod text {
-    use super::{ours, vector};
+    use super::ours;
     use crate::shapes::Shape;
     use oracle::hull::HullData;
     use oracle::open;
-    use probes::{ClipVertex, FeaturePair, Lent, Point, SatCache};
+    use records::{FeaturePair, Hull, Point, SatCache};
 
-    fn pair(p: FeaturePair) -> open::FeaturePair {
+    pub fn pair(p: FeaturePair) -> open::FeaturePair {
         open::FeaturePair {
             owner1: p.owner1,
             index1: p.index1,
@@ -70,51 +70,13 @@ mod text {
         }
     }
 
-    pub fn corners(list: &[ClipVertex]) -> Vec<open::ClipVertex> {
-        list.iter()
-            .map(|v| open::ClipVertex {
-                position: vector(v.position),
-                separation: v.separation,
-                pair: pair(v.pair),
-            })
-            .collect()
-    }
-
-    pub fn our_corner(v: &open::ClipVertex) -> ClipVertex {
-        ClipVertex {
-            position: ours(v.position),
-            separation: v.separation,
-            pair: our_pair(v.pair),
-        }
-    }
-
-    /// A point as the candidate that it was.
-    pub fn our_point(v: &open::LocalManifoldPoint) -> ClipVertex {
-        ClipVertex {
-            position: ours(v.point),
-            separation: v.separation,
-            pair: our_pair(v.pair),
-        }
-    }
-
-    fn our_pair(p: open::FeaturePair) -> FeaturePair {
+    pub fn our_pair(p: open::FeaturePair) -> FeaturePair {
         FeaturePair {
             owner1: p.owner1,
             index1: p.index1,
             owner2: p.owner2,
             index2: p.index2,
         }
-    }
-
-    pub fn points(list: &[ClipVertex]) -> Vec<open::LocalManifoldPoint> {
-        list.iter()
-            .map(|v| open::LocalManifoldPoint {
-                point: vector(v.position),
-                separation: v.separation,
-                pair: pair(v.pair),
-                triangle_index: 0,
-            })
-            .collect()
     }
 
     pub fn our_contact_point(v: &open::LocalManifoldPoint) -> Point {
@@ -136,15 +98,15 @@ mod text {
     }
 
     pub fn hull(shape: &Shape) -> HullData {
-        lent(crate::pairs::lent(shape))
+        lent(shape.lent())
     }
 
     /// Panics where the lists do not fit the sizes.
-    pub fn lent(hull: Lent) -> HullData {
-        let size = hull.size;
+    pub fn lent(hull: Hull) -> HullData {
+        let size = hull.size();
         oracle::hull(
-            hull.numbers,
-            hull.links,
+            hull.numbers(),
+            hull.links(),
             size.vertices,
             size.half_edges,
             size.faces,

@@ -1,65 +1,37 @@
 //! What a call is given, the refusals of document 01 that come before any work, and the comparison of two answers.
 
 use crate::same;
-use probes::{
-    Answer, Contact, FeaturePair, HullSize, Lent, Outcome, Point, SatCache, Transform, Vec3,
-};
+use records::{Contact, Hull, HullSize, Outcome, Point, SatCache, Transform, Vec3};
 
 #[cfg(rust_text)]
 pub use text::Work;
 
 #[cfg(rust_text)]
+pub mod aims;
+pub mod caches;
+#[cfg(rust_text)]
+pub mod more;
+#[cfg(rust_text)]
 mod text;
 
-const NO_VECTOR: Vec3 = Vec3 {
-    x: 0.0,
-    y: 0.0,
-    z: 0.0,
-};
-
-const NO_POINT: Point = Point {
-    position: NO_VECTOR,
-    separation: 0.0,
-    pair: FeaturePair {
-        owner1: 0,
-        index1: 0,
-        owner2: 0,
-        index2: 0,
-    },
-};
-
-const NO_CONTACT: Contact = Contact {
-    points: [NO_POINT; 4],
-    normal: NO_VECTOR,
-    count: 0,
-};
-
-/// Of type 0, as before the first call.
-pub const NO_CACHE: SatCache = SatCache {
-    separation: 0,
-    kind: 0,
-    index_a: 0,
-    index_b: 0,
-    hit: 0,
-};
+/// What a call returns, and the next cache.
+#[derive(Debug, Clone, Copy)]
+pub struct Answer {
+    pub outcome: Outcome,
+    pub cache: SatCache,
+}
 
 /// What a call is given.
 #[derive(Debug, Clone, Copy)]
 pub struct Call<'a> {
     pub capacity: i32,
-    pub a: Lent<'a>,
-    pub b: Lent<'a>,
+    pub a: Hull<'a>,
+    pub b: Hull<'a>,
     pub transform: Transform,
     pub cache: SatCache,
 }
 
 impl Call<'_> {
-    /// The proved answer.
-    #[inline]
-    pub fn ours(&self) -> Answer {
-        probes::collide(self.capacity, self.a, self.b, self.transform, self.cache)
-    }
-
     /// The first of refusals 1 to 4 that is given, 0 if none.
     pub fn refusal(&self) -> u8 {
         if !good(self.a) {
@@ -68,7 +40,7 @@ impl Call<'_> {
             2
         } else if !placed(self.transform) {
             3
-        } else if !in_range(self.a.size, self.b.size, self.cache) {
+        } else if !in_range(self.a.size(), self.b.size(), self.cache) {
             4
         } else {
             0
@@ -76,13 +48,13 @@ impl Call<'_> {
     }
 }
 
-fn good(hull: Lent) -> bool {
+fn good(hull: Hull) -> bool {
     let HullSize {
         vertices,
         half_edges,
         faces,
-    } = hull.size;
-    validator::first_broken_rule(hull.numbers, hull.links, vertices, half_edges, faces) == 0
+    } = hull.size();
+    validator::first_broken_rule(hull.numbers(), hull.links(), vertices, half_edges, faces) == 0
 }
 
 fn placed(Transform { p, q }: Transform) -> bool {
@@ -106,7 +78,7 @@ fn in_range(a: HullSize, b: HullSize, cache: SatCache) -> bool {
 
 /// No contact, and the cache as it was.
 pub fn empty(status: u8, cache: SatCache) -> Answer {
-    let contact = NO_CONTACT;
+    let contact = Contact::EMPTY;
     Answer {
         outcome: Outcome { status, contact },
         cache,

@@ -1,13 +1,13 @@
 //! The refusals that stand for the text's panics are those that the panics' own words tell.
 #![cfg(rust_text)]
 
+use cases::calls::Work;
+use cases::pairs::{self, placed};
+use cases::sorts::padded;
+use cases::{convert, Numbers};
 use oracle::open::{collide_hulls, LocalManifold};
 use oracle::quiet;
-use probes::SatCache;
-use runs::calls::{Work, NO_CACHE};
-use runs::pairs::{self, placed};
-use runs::sorts::padded;
-use runs::{convert, Numbers};
+use records::SatCache;
 use std::panic::catch_unwind;
 
 /// 7 for an index of -1, 6 for a 65th place of a buffer, 5 for any other; 0 where the text does not panic.
@@ -52,7 +52,7 @@ fn panics_tell_the_refusals() {
                 kind,
                 index_a: index_a as u8,
                 index_b: index_b as u8,
-                ..NO_CACHE
+                ..SatCache::EMPTY
             };
             let refusal = told(&work, cache);
             assert_eq!(work.answer(4, cache).outcome.status, refusal, "{cache:?}");

@@ -1,6 +1,6 @@
 //! The work by the Rust text.
 
-use super::{empty, Call, NO_CONTACT};
+use super::{empty, Answer, Call};
 use crate::convert;
 use crate::pairs::Pair;
 use oracle::hull::HullData;
@@ -8,7 +8,7 @@ use oracle::math_functions::Transform;
 use oracle::open::{self, collide_hulls, search, AxisQuery, LocalManifold};
 use oracle::quiet;
 use oracle::transcribed::{again, Again, End};
-use probes::{Answer, Outcome, SatCache};
+use records::{Contact, Outcome, SatCache};
 
 /// The bits of a NaN that a call works out.
 const NAN: u32 = 0x7fc0_0000;
@@ -104,7 +104,7 @@ impl Work {
 /// What the text made of the cache, with document 01's two rules added: what is not filled is zero, and a NaN that was
 /// worked out has fixed bits. The text leaves the separation where there is a hit and where type 8 stays.
 fn accepted(manifold: &LocalManifold, cache: SatCache, next: open::SatCache) -> Answer {
-    let mut contact = NO_CONTACT;
+    let mut contact = Contact::EMPTY;
     let made = &manifold.points[..manifold.point_count as usize];
     if !made.is_empty() {
         contact.normal = convert::ours(manifold.normal);

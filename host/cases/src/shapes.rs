@@ -1,7 +1,7 @@
-//! Hulls for the runs: a solid's record in the project's layout, with whatever the record leaves open chosen at random.
+//! Hulls: a solid's record in the project's layout, with whatever the record leaves open chosen at random.
 
 use crate::Numbers;
-use probes::HullSize;
+use records::{Hull, HullSize};
 use solids::Solid;
 use std::collections::HashMap;
 
@@ -42,6 +42,11 @@ pub enum Padding<'a> {
 }
 
 impl Shape {
+    /// The hull as it is lent, whatever its lists and sizes are.
+    pub fn lent(&self) -> Hull<'_> {
+        Hull::lent(self.size, &self.numbers, &self.links)
+    }
+
     /// Faces and vertices by their numbers in the solid; half-edges 2k and 2k+1 are twins, numbered as the loops meet
     /// them; each ring from its loop's first corner; the first vertex in the padding.
     pub fn new(solid: &Solid) -> Shape {

@@ -1,13 +1,13 @@
 //! Caches that lead the call a certain way, and where B lies then.
 
-use crate::caches::{any, naming, NAMING};
+use super::caches::{any, naming, NAMING};
+use super::Work;
+use crate::inputs::rounded;
+use crate::shapes::solids::frame;
+use crate::{convert, Numbers, SLOP, SPECULATIVE};
 use oracle::math_functions::mul_add;
 use oracle::transcribed::End;
-use probes::{HullSize, SatCache};
-use runs::calls::Work;
-use runs::inputs::rounded;
-use runs::shapes::solids::frame;
-use runs::{convert, Numbers, SLOP, SPECULATIVE};
+use records::{HullSize, SatCache};
 
 /// Any type that acts as type 0.
 pub fn of_full_search(n: &mut Numbers) -> SatCache {

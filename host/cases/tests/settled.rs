@@ -1,10 +1,10 @@
 //! The settled pairs are what their classes say, by the text's own search.
 #![cfg(rust_text)]
 
+use cases::settled::{Class, Pair, Stack};
+use cases::{convert, Numbers};
 use oracle::math_functions::{dot, rotate_vector, Vec3};
 use oracle::open::{search, AxisQuery, SeparatingFeature};
-use runs::settled::{Class, Pair, Stack};
-use runs::{convert, Numbers};
 
 /// A stack, and the text's answer to each pair.
 fn searched(seed: u64) -> (Stack, Vec<AxisQuery>) {

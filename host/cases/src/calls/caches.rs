@@ -1,7 +1,7 @@
 //! Caches of every sort.
 
-use probes::{HullSize, SatCache};
-use runs::Numbers;
+use crate::Numbers;
+use records::{HullSize, SatCache};
 
 /// The types that name what is there: a face of A, a face of B, a pair of edges.
 pub const NAMING: [u8; 3] = [2, 3, 4];

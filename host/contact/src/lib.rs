@@ -1,0 +1,136 @@
+//! The proved contact routine, safe to call: two hulls, where B lies in A's frame and a small cache go in; a normal, at
+//! most four tagged points and the next cache come out.
+//!
+//! A hull is lent, not copied, and judged by every call: one that breaks a rule is refused by its number, and so is a
+//! transform or a cache that does not fit. No input makes a call fault. A cache starts as [`SatCache::EMPTY`] and stays
+//! with its pair of hulls from step to step.
+//!
+//! ```
+//! use contact::{collide, Hull, HullSize, Quat, Refusal, SatCache, Transform, Vec3};
+//!
+//! // A corner of a cube: four vertices, twelve half-edges, four faces.
+//! let size = HullSize { vertices: 4, half_edges: 12, faces: 4 };
+//! let s = 1.0 / 3f32.sqrt();
+//! #[rustfmt::skip]
+//! let numbers = [
+//!     0.0, 0.0, 0.0,  1.0, 1.0, 1.0,                   // the box
+//!     0.0, 1.0, 0.0, 0.0,                              // x of each vertex
+//!     0.0, 0.0, 1.0, 0.0,                              // y
+//!     0.0, 0.0, 0.0, 1.0,                              // z
+//!     0.0, 0.0, -1.0, 0.0,   0.0, -1.0, 0.0, 0.0,      // normal and offset of each face
+//!     -1.0, 0.0, 0.0, 0.0,   s, s, s, s,
+//! ];
+//! #[rustfmt::skip]
+//! let links = [
+//!     9, 3, 11, 7,                                     // an edge at each vertex
+//!     2, 1, 0, 0,   9, 0, 2, 2,   4, 3, 2, 0,          // next, twin, origin and face of each half-edge
+//!     11, 2, 1, 3,  0, 5, 1, 0,   6, 4, 0, 1,
+//!     8, 7, 1, 1,   3, 6, 3, 3,   5, 9, 3, 1,
+//!     10, 8, 0, 2,  1, 11, 3, 2,  7, 10, 2, 3,
+//!     0, 5, 9, 3,                                      // an edge of each face
+//! ];
+//! let hull = Hull::new(size, &numbers, &links)?;
+//!
+//! // B a little below the tip of A.
+//! let at = |z| Transform { p: Vec3 { x: 0.0, y: 0.0, z }, q: Quat::IDENTITY };
+//! let mut cache = SatCache::EMPTY;
+//! let outcome = collide(&hull, &hull, at(0.99), &mut cache);
+//! assert_eq!(outcome.points().len(), 4);
+//! assert_eq!((cache.kind, cache.index_a), (2, 3)); // the slope of A
+//!
+//! // The next step begins with the axis that this one found.
+//! let outcome = collide(&hull, &hull, at(0.991), &mut cache);
+//! assert_eq!((outcome.points().len(), cache.hit), (4, 1));
+//!
+//! // What breaks a rule is refused, and the cache stays as it was.
+//! let outcome = collide(&hull, &hull, at(f32::NAN), &mut cache);
+//! assert_eq!(outcome.accepted(), Err(Refusal::Transform));
+//! assert_eq!(cache.hit, 1);
+//! # Ok::<(), contact::HullError>(())
+//! ```
+
+pub use records::*;
+
+use std::ops::Deref;
+
+mod linked;
+
+/// The contact of hull A and hull B, B placed in A's frame. The cache becomes the next one, where the call is accepted.
+#[inline]
+pub fn collide(a: &Hull, b: &Hull, transform: Transform, cache: &mut SatCache) -> Outcome {
+    collide_with(MAX_MANIFOLD_POINTS as i32, a, b, transform, cache)
+}
+
+/// The same with room for so many points: with less than four there are none, and nothing else is looked at.
+#[inline]
+pub fn collide_with(
+    capacity: i32,
+    a: &Hull,
+    b: &Hull,
+    transform: Transform,
+    cache: &mut SatCache,
+) -> Outcome {
+    // The library asks nothing of its lists and sizes, and writes to nothing but the cache.
+    unsafe {
+        linked::contact_collide(
+            capacity,
+            a.numbers().as_ptr(),
+            a.numbers().len(),
+            a.links().as_ptr(),
+            a.links().len(),
+            a.size(),
+            b.numbers().as_ptr(),
+            b.numbers().len(),
+            b.links().as_ptr(),
+            b.links().len(),
+            b.size(),
+            transform,
+            cache,
+        )
+    }
+}
+
+/// The most bytes of an answer to a frame.
+pub const LONGEST_ANSWER: usize = 103;
+
+/// The bytes of an answer.
+#[derive(Debug, Clone, Copy)]
+pub struct Answer {
+    bytes: [u8; LONGEST_ANSWER],
+    length: usize,
+}
+
+impl Deref for Answer {
+    type Target = [u8];
+
+    fn deref(&self) -> &[u8] {
+        &self.bytes[..self.length]
+    }
+}
+
+/// The answer to one frame in bytes, its kind first: what the program `contact` prints for the same frame in hexadecimal.
+///
+/// ```
+/// assert_eq!(*contact::answer(&[0x10, 0x40, 0x80, 0, 0]), [0x90, 0x40, 0, 0, 0]); // the root of 4 is 2
+/// assert_eq!(*contact::answer(&[0x13]), [0xff, 0x22]); // there is no such kind
+/// ```
+pub fn answer(frame: &[u8]) -> Answer {
+    let mut bytes = [0; LONGEST_ANSWER];
+    let length = answer_into(frame, &mut bytes);
+    Answer { bytes, length }
+}
+
+/// The same into a list of the caller's: how many bytes the answer has. Where the list has fewer than
+/// [`LONGEST_ANSWER`], that is 0 and nothing is written.
+#[inline]
+pub fn answer_into(frame: &[u8], answer: &mut [u8]) -> usize {
+    // The library asks nothing of the two lists, and writes to nothing but the second.
+    unsafe {
+        linked::contact_answer(
+            frame.as_ptr(),
+            frame.len(),
+            answer.as_mut_ptr(),
+            answer.len(),
+        )
+    }
+}

@@ -1,0 +1,169 @@
+//! What a host and the proved library hand each other: records in C's layout with the fields of their Rattle originals
+//! in their order, a hull as it is lent, and the refusals in words. Nothing is linked.
+
+mod hull;
+mod refusal;
+
+pub use hull::{Hull, HullError, HullSize};
+pub use refusal::Refusal;
+
+/// The most points of a contact, and the least capacity with which a call does any work.
+pub const MAX_MANIFOLD_POINTS: usize = 4;
+
+/// Three numbers.
+#[derive(Debug, Clone, Copy, PartialEq, Default)]
+#[repr(C)]
+pub struct Vec3 {
+    pub x: f32,
+    pub y: f32,
+    pub z: f32,
+}
+
+impl Vec3 {
+    pub const ZERO: Vec3 = Vec3 {
+        x: 0.0,
+        y: 0.0,
+        z: 0.0,
+    };
+}
+
+/// A rotation; `s` is the scalar part.
+#[derive(Debug, Clone, Copy, PartialEq)]
+#[repr(C)]
+pub struct Quat {
+    pub v: Vec3,
+    pub s: f32,
+}
+
+impl Quat {
+    /// No turn.
+    pub const IDENTITY: Quat = Quat {
+        v: Vec3::ZERO,
+        s: 1.0,
+    };
+}
+
+/// Where B lies in A's frame: turned by `q`, then moved by `p`.
+#[derive(Debug, Clone, Copy, PartialEq)]
+#[repr(C)]
+pub struct Transform {
+    pub p: Vec3,
+    pub q: Quat,
+}
+
+/// The points whose product with the normal is the offset.
+#[derive(Debug, Clone, Copy, PartialEq)]
+#[repr(C)]
+pub struct Plane {
+    pub normal: Vec3,
+    pub offset: f32,
+}
+
+/// The tag of a point: two features, each the half-edge `index` of hull A (owner 0) or hull B (owner 1).
+#[derive(Debug, Clone, Copy, PartialEq, Eq, Default)]
+#[repr(C)]
+pub struct FeaturePair {
+    pub owner1: u8,
+    pub index1: u8,
+    pub owner2: u8,
+    pub index2: u8,
+}
+
+/// The axis that the last call found. Its separation is a bit pattern, since a NaN's bits are kept.
+#[derive(Debug, Clone, Copy, PartialEq, Eq, Default)]
+#[repr(C)]
+pub struct SatCache {
+    pub separation: u32,
+    pub kind: u8,
+    pub index_a: u8,
+    pub index_b: u8,
+    pub hit: u8,
+}
+
+impl SatCache {
+    /// Of type 0, as before the first call.
+    pub const EMPTY: SatCache = SatCache {
+        separation: 0,
+        kind: 0,
+        index_a: 0,
+        index_b: 0,
+        hit: 0,
+    };
+}
+
+/// A point of a contact, in A's frame; its separation is below zero where the hulls overlap there.
+#[derive(Debug, Clone, Copy, PartialEq, Default)]
+#[repr(C)]
+pub struct Point {
+    pub position: Vec3,
+    pub separation: f32,
+    pub pair: FeaturePair,
+}
+
+/// The places at and above the count are zero, and so is the normal where the count is 0.
+#[derive(Debug, Clone, Copy, PartialEq)]
+#[repr(C)]
+pub struct Contact {
+    pub points: [Point; MAX_MANIFOLD_POINTS],
+    /// From A to B, in A's frame.
+    pub normal: Vec3,
+    pub count: u8,
+}
+
+impl Contact {
+    /// No points.
+    pub const EMPTY: Contact = Contact {
+        points: [Point {
+            position: Vec3::ZERO,
+            separation: 0.0,
+            pair: FeaturePair {
+                owner1: 0,
+                index1: 0,
+                owner2: 0,
+                index2: 0,
+            },
+        }; MAX_MANIFOLD_POINTS],
+        normal: Vec3::ZERO,
+        count: 0,
+    };
+
+    /// The points below the count.
+    #[inline]
+    pub fn points(&self) -> &[Point] {
+        &self.points[..usize::from(self.count)]
+    }
+}
+
+/// What a call returns beside the next cache.
+#[derive(Debug, Clone, Copy, PartialEq)]
+#[repr(C)]
+#[must_use]
+pub struct Outcome {
+    /// 0, or the number of the refusal.
+    pub status: u8,
+    /// Empty where the call was refused.
+    pub contact: Contact,
+}
+
+impl Outcome {
+    /// Why the call was refused, if it was.
+    #[inline]
+    pub fn refusal(&self) -> Option<Refusal> {
+        Refusal::of_status(self.status)
+    }
+
+    /// The contact's points; none where the hulls do not touch and where the call was refused.
+    #[inline]
+    pub fn points(&self) -> &[Point] {
+        self.contact.points()
+    }
+
+    /// The contact, or why there is none.
+    #[inline]
+    pub fn accepted(self) -> Result<Contact, Refusal> {
+        match self.refusal() {
+            None => Ok(self.contact),
+            Some(refusal) => Err(refusal),
+        }
+    }
+}
