@@ -1,6 +1,7 @@
 //! What a call is given, the refusals of document 01 that come before any work, and the comparison of two answers.
 
 use crate::same;
+use crate::shapes::Shape;
 use records::{Contact, Hull, HullSize, Outcome, Point, SatCache, Transform, Vec3};
 
 #[cfg(rust_text)]
@@ -8,9 +9,12 @@ pub use text::Work;
 
 #[cfg(rust_text)]
 pub mod aims;
+pub mod broken;
 pub mod caches;
 #[cfg(rust_text)]
 pub mod more;
+#[cfg(rust_text)]
+pub mod series;
 #[cfg(rust_text)]
 mod text;
 
@@ -31,7 +35,49 @@ pub struct Call<'a> {
     pub cache: SatCache,
 }
 
+/// The same, owned.
+#[derive(Debug, Clone)]
+pub struct Given {
+    pub capacity: i32,
+    pub a: Shape,
+    pub b: Shape,
+    pub transform: Transform,
+    pub cache: SatCache,
+}
+
+impl Given {
+    /// Hull A for an even number, hull B for an odd one.
+    pub fn side(&mut self, number: usize) -> &mut Shape {
+        if number.is_multiple_of(2) {
+            &mut self.a
+        } else {
+            &mut self.b
+        }
+    }
+
+    pub fn call(&self) -> Call<'_> {
+        Call {
+            capacity: self.capacity,
+            a: self.a.lent(),
+            b: self.b.lent(),
+            transform: self.transform,
+            cache: self.cache,
+        }
+    }
+}
+
 impl Call<'_> {
+    /// The answer where no work is done: a capacity below 4, which comes first, or one of refusals 1 to 4.
+    pub fn without_work(&self) -> Option<Answer> {
+        if self.capacity < 4 {
+            return Some(empty(0, self.cache));
+        }
+        match self.refusal() {
+            0 => None,
+            refusal => Some(empty(refusal, self.cache)),
+        }
+    }
+
     /// The first of refusals 1 to 4 that is given, 0 if none.
     pub fn refusal(&self) -> u8 {
         if !good(self.a) {

@@ -47,6 +47,16 @@ impl Shape {
         Hull::lent(self.size, &self.numbers, &self.links)
     }
 
+    /// The number of the first rule that it breaks by the second validator, 0 if none.
+    pub fn broken_rule(&self) -> u8 {
+        let HullSize {
+            vertices,
+            half_edges,
+            faces,
+        } = self.size;
+        validator::first_broken_rule(&self.numbers, &self.links, vertices, half_edges, faces)
+    }
+
     /// Faces and vertices by their numbers in the solid; half-edges 2k and 2k+1 are twins, numbered as the loops meet
     /// them; each ring from its loop's first corner; the first vertex in the padding.
     pub fn new(solid: &Solid) -> Shape {

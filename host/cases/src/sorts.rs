@@ -229,9 +229,7 @@ fn far_away(n: &mut Numbers) -> Pair {
         };
         let by = if far { n.between(3950.0, 4050.0) } else { 0.0 };
         let shape = Shape::any(&solid.moved(ends.map(|end| end * by)), n);
-        let size = shape.size;
-        let (v, h, f) = (size.vertices, size.half_edges, size.faces);
-        if validator::first_broken_rule(&shape.numbers, &shape.links, v, h, f) == 0 {
+        if shape.broken_rule() == 0 {
             return shape;
         }
     };

@@ -35,14 +35,7 @@ fn logs_and_shares_are_as_named() {
     let (stack, _) = searched(1);
     for log in &stack.logs {
         let size = log.size;
-        let rule = validator::first_broken_rule(
-            &log.numbers,
-            &log.links,
-            size.vertices,
-            size.half_edges,
-            size.faces,
-        );
-        assert_eq!(rule, 0);
+        assert_eq!(log.broken_rule(), 0);
         assert_eq!((size.vertices, size.half_edges, size.faces), (24, 72, 14));
     }
     for class in Class::ALL {

@@ -5,20 +5,9 @@ use cases::shapes::solids::*;
 use cases::shapes::{Link, Shape};
 use cases::Numbers;
 
-fn answer(shape: &Shape) -> u8 {
-    let size = shape.size;
-    validator::first_broken_rule(
-        &shape.numbers,
-        &shape.links,
-        size.vertices,
-        size.half_edges,
-        size.faces,
-    )
-}
-
 fn sizes(solid: &Solid) -> (usize, usize, usize) {
     let shape = Shape::new(solid);
-    assert_eq!(answer(&shape), 0);
+    assert_eq!(shape.broken_rule(), 0);
     let size = shape.size;
     (size.vertices, size.half_edges, size.faces)
 }
@@ -56,12 +45,12 @@ fn all_are_good() {
     for (name, solid) in COMPACT.into_iter().chain(STRETCHED) {
         for _ in 0..100 {
             let placed = solid(&mut n).placed(1000.0, &mut n);
-            assert_eq!(answer(&Shape::any(&placed, &mut n)), 0, "{name}");
+            assert_eq!(Shape::any(&placed, &mut n).broken_rule(), 0, "{name}");
         }
     }
     for (name, solid) in COMPACT {
         let far = solid(&mut n).far(&mut n);
-        assert_eq!(answer(&Shape::any(&far, &mut n)), 0, "{name} far away");
+        assert_eq!(Shape::any(&far, &mut n).broken_rule(), 0, "{name} far away");
     }
 }
 

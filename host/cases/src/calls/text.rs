@@ -16,13 +16,8 @@ const NAN: u32 = 0x7fc0_0000;
 impl Call<'_> {
     /// What document 01 says, the work done by the text.
     pub fn wanted(&self) -> Answer {
-        if self.capacity < 4 {
-            return empty(0, self.cache);
-        }
-        match self.refusal() {
-            0 => Work::of_call(self).answer(self.capacity, self.cache),
-            refusal => empty(refusal, self.cache),
-        }
+        self.without_work()
+            .unwrap_or_else(|| Work::of_call(self).answer(self.capacity, self.cache))
     }
 }
 

@@ -28,18 +28,9 @@ fn main() {
     std::process::exit(if good { 0 } else { 1 });
 }
 
-/// What document 01 asks for: 7fc00000 for a number below zero and for any NaN, else the processor's root.
-/// Both are told by the bits: rustc takes any NaN for any other, and leaves out a test of the float that only picks one.
-fn wanted(bits: u32) -> u32 {
-    match bits {
-        0x7f80_0001..=0x7fff_ffff | 0x8000_0001..=0xffff_ffff => 0x7fc0_0000,
-        _ => f32::from_bits(bits).sqrt().to_bits(),
-    }
-}
-
 fn compare(tally: &mut Tally, bits: u32) {
     let ours = probes::root_bits(bits);
-    let theirs = wanted(bits);
+    let theirs = frames::wanted::root(bits);
     tally.compare(ours == theirs, || {
         format!("root of {bits:08x}: {ours:08x}, the processor has {theirs:08x}")
     });

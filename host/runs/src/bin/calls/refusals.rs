@@ -1,16 +1,10 @@
 //! Refusals before any work, one rule broken or several, and capacities below 4, with which nothing is looked at.
 
+use cases::calls::broken::{hull, transform, Broken, Given};
 use cases::calls::{caches, empty, same_answers, Call};
-use cases::inputs::rotation;
-use cases::shapes::breaks::break_rule;
-use cases::shapes::kinds::COMPACT;
-use cases::shapes::Shape;
 use cases::{met, one_in, Numbers, Tally};
-use records::{Hull, HullSize, Quat, Transform, Vec3};
+use records::{Hull, HullSize};
 use runs::ours;
-
-/// What is broken: hull A, hull B, the transform, the cache.
-type Broken = [bool; 4];
 
 pub fn run(n: &mut Numbers, count: usize) -> bool {
     let (mut refused, mut small) = (Tally::default(), Tally::default());
@@ -41,55 +35,12 @@ pub fn run(n: &mut Numbers, count: usize) -> bool {
         & small.report("capacities below 4")
 }
 
-/// A good hull or one that breaks any rule.
-fn hull(broken: bool, n: &mut Numbers) -> Shape {
-    let solid = COMPACT[n.below(COMPACT.len())].1(n);
-    let mut shape = Shape::any(&solid, n);
-    if broken {
-        break_rule(1 + n.below(8) as u8, &mut shape, n);
-    }
-    shape
-}
-
-fn transform(broken: bool, n: &mut Numbers) -> Transform {
-    let mut part = || 4096.0 * n.fraction();
-    let (x, y, z) = (part(), part(), part());
-    let mut t = Transform {
-        p: Vec3 { x, y, z },
-        q: rotation(n),
-    };
-    if broken {
-        let Transform {
-            p,
-            q: Quat { v, s },
-        } = &mut t;
-        let parts = [
-            &mut p.x, &mut p.y, &mut p.z, &mut v.x, &mut v.y, &mut v.z, s,
-        ];
-        let part = parts.into_iter().nth(n.below(7)).expect("one of seven");
-        let beyond = [f32::NAN, f32::INFINITY, f32::MIN, 4096f32.next_up(), -5e3];
-        *part = beyond[n.below(beyond.len())];
-    }
-    t
-}
-
 /// One call with these broken, which is refused by this number.
-fn one(t: &mut Tally, [a, b, placing, cache]: Broken, number: u8, n: &mut Numbers) {
-    let (a, b) = (hull(a, n), hull(b, n));
-    let cache = if cache {
-        caches::out_of_range(a.size, b.size, n)
-    } else {
-        caches::in_range(a.size, b.size, n)
-    };
-    let call = Call {
-        capacity: [4, 5, 100, i32::MAX][n.below(4)],
-        a: a.lent(),
-        b: b.lent(),
-        transform: transform(placing, n),
-        cache,
-    };
+fn one(t: &mut Tally, broken: Broken, number: u8, n: &mut Numbers) {
+    let given = Given::any(broken, n);
+    let call = given.call();
     let ours = ours(&call);
-    let right = call.refusal() == number && same_answers(&ours, &empty(number, cache));
+    let right = call.refusal() == number && same_answers(&ours, &empty(number, call.cache));
     t.compare(right, || format!("refusal {number}: {ours:?}: {call:?}"));
 }
 

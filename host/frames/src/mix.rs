@@ -1,0 +1,138 @@
+//! How often each sort, fault, refusal, rule and cache type was met, and whether all that must be were.
+
+use crate::codec::{
+    self, Asked, Fault, CACHE, CALL, COUNT, FLIP, HIT, NEXT_CACHE, ROOT, STATUS, TYPE,
+};
+use crate::sorts::Frames;
+use crate::Frame;
+use cases::met;
+
+/// Types that are told apart: 0 to 8, and all above together.
+const TYPES: usize = 10;
+
+#[derive(Default)]
+pub struct Mix {
+    sorts: Vec<u64>,
+    roots: u64,
+    pairs: u64,
+    faults: [u64; 5],
+    /// Calls by their status.
+    statuses: [u64; 9],
+    /// Refused hulls by the rule that is broken first.
+    rules: [u64; 9],
+    /// Capacities below 4.
+    without_work: u64,
+    /// Other accepted calls: by the type that they were given, hits by it, by the type that they return, by points.
+    types: [u64; TYPES],
+    hits: [u64; TYPES],
+    next_types: [u64; TYPES],
+    points: [u64; 5],
+}
+
+impl Mix {
+    pub fn new(frames: &Frames) -> Mix {
+        Mix {
+            sorts: vec![0; frames.sorts().len()],
+            ..Mix::default()
+        }
+    }
+
+    /// One frame of the sort at this place of the list, and the answer that is wanted.
+    pub fn add(&mut self, sort: usize, frame: &Frame, answer: &[u8]) {
+        self.sorts[sort] += 1;
+        match (answer[0] - 0x80, frame.bytes()) {
+            (ROOT, _) => self.roots += 1,
+            (FLIP, _) => self.pairs += 1,
+            (CALL, Some(bytes)) => self.add_call(bytes, answer),
+            _ => {
+                let place = Fault::ALL.iter().position(|&f| f as u8 == answer[1]);
+                self.faults[place.expect("a fault")] += 1;
+            }
+        }
+    }
+
+    fn add_call(&mut self, frame: &[u8], answer: &[u8]) {
+        let Ok(Asked::Call(given)) = codec::decode(frame) else {
+            panic!("an answer to a call that is none");
+        };
+        let status = answer[STATUS];
+        self.statuses[usize::from(status)] += 1;
+        match status {
+            1 => self.rules[usize::from(given.a.broken_rule())] += 1,
+            2 => self.rules[usize::from(given.b.broken_rule())] += 1,
+            0 if given.capacity < 4 => self.without_work += 1,
+            0 => {
+                let kind = |byte: u8| usize::from(byte).min(TYPES - 1);
+                let asked = kind(frame[CACHE + TYPE]);
+                self.types[asked] += 1;
+                self.hits[asked] += u64::from(answer[NEXT_CACHE + HIT] == 1);
+                self.next_types[kind(answer[NEXT_CACHE + TYPE])] += 1;
+                self.points[usize::from(answer[COUNT])] += 1;
+            }
+            _ => {}
+        }
+    }
+
+    /// Prints all of it; whether each that must be was met. A library is sent no lines.
+    pub fn report(&self, frames: &Frames, program: bool) -> bool {
+        let text = u64::from(cfg!(rust_text));
+        let lines = u64::from(program);
+        let sorts: Vec<(&str, u64, u64)> = (frames.sorts().iter().zip(&self.sorts))
+            .map(|(sort, &count)| (sort.name, count, if sort.only_lines { lines } else { 1 }))
+            .collect();
+        let [owner, not_hex, no_kind, length, too_long] = self.faults;
+        let [accepted, a, b, transform, cache, padding, cut, no_face, _] = self.statuses;
+        let rules = (1..9).map(|rule| (format!("H{rule}"), self.rules[rule], 1));
+        let named = ["type 0", "1", "2", "3", "4", "5", "6", "7", "8", "9 to 255"];
+        let types = |counts: &[u64; TYPES], least: [u64; TYPES]| {
+            let all = named.into_iter().zip(*counts).zip(least);
+            met(&all
+                .map(|((name, count), least)| (name, count, text * least))
+                .collect::<Vec<_>>())
+        };
+        let [none, one, two, three, four] = self.points;
+        println!("frames by sort");
+        let mut good = met(&sorts);
+        println!("answers");
+        good &= met(&[
+            ("roots", self.roots, 1),
+            ("pairs", self.pairs, 1),
+            ("ff08", owner, 1),
+            ("ff21", not_hex, lines),
+            ("ff22", no_kind, 1),
+            ("ff23", length, 1),
+            ("ff24", too_long, lines),
+        ]);
+        good &= met(&[
+            ("calls accepted", accepted, 1),
+            ("refused by 1", a, 1),
+            ("2", b, 1),
+            ("3", transform, 1),
+            ("4", cache, 1),
+            ("5", padding, text),
+            ("6", cut, text),
+            ("7, which no input gives", no_face, 0),
+            ("capacity below 4", self.without_work, 1),
+        ]);
+        println!("first broken rule of a refused hull");
+        let rules: Vec<(String, u64, u64)> = rules.collect();
+        good &= met(&rules
+            .iter()
+            .map(|(name, count, least)| (name.as_str(), *count, *least))
+            .collect::<Vec<_>>());
+        println!("caches of accepted calls");
+        good &= types(&self.types, [1; TYPES]);
+        println!("hits");
+        good &= types(&self.hits, [0, 0, 1, 1, 1, 0, 0, 0, 0, 0]);
+        println!("caches that come out");
+        good &= types(&self.next_types, [1, 0, 1, 1, 1, 0, 0, 0, 1, 0]);
+        println!("points");
+        good & met(&[
+            ("none", none, text),
+            ("one", one, text),
+            ("two", two, text),
+            ("three", three, text),
+            ("four", four, text),
+        ])
+    }
+}

@@ -1,0 +1,95 @@
+//! The frames that are stored with the program, so that it can be held to their answers with no Rust at hand: document
+//! 01's own, then of each sort those that meet something new.
+
+use crate::codec::{self, Asked, CACHE, CALL, COUNT, HIT, NEXT_CACHE, STATUS, TYPE};
+use crate::sorts::{marked, Frames};
+use crate::{wanted, Frame};
+use std::collections::{HashMap, HashSet};
+
+const SEED: u64 = 1;
+
+/// How many units are looked through, and how many frames of each sort are stored whatever they meet: of long ones and
+/// of short ones.
+const UNITS: usize = 4000;
+const LONG_OF_A_SORT: usize = 3;
+const SHORT_OF_A_SORT: usize = 24;
+const SHORT: usize = 300;
+
+/// Longer calls are left to the other runs, but for document 01's own and the lines about the longest.
+const LONGEST_CALL: usize = 1800;
+
+/// Its places come of an arc tangent, whose last bit differs from machine to machine.
+const LEFT_OUT: &str = "near-parallel edges";
+
+/// The input and the output, the input's last line without its end.
+pub fn files() -> (Vec<u8>, Vec<u8>) {
+    let lines: Vec<Vec<u8>> = frames().iter().map(|frame| frame.line().into()).collect();
+    let input = lines.join(&b'\n');
+    let output = wanted::to_input(&input).expect("the Rust text is at hand");
+    (input, output)
+}
+
+fn frames() -> Vec<Frame> {
+    let mut stored = marked::all();
+    let (mut things, mut sorts) = (HashSet::new(), HashMap::new());
+    let all = Frames::new(SEED);
+    for unit in 0..UNITS {
+        let name = all.sorts()[all.sort_of(unit)].name;
+        if name == LEFT_OUT {
+            continue;
+        }
+        for frame in all.unit(unit) {
+            let line = frame.line();
+            let answer = wanted::to_line(&line).expect("the Rust text is at hand");
+            let most = if line.len() <= SHORT {
+                SHORT_OF_A_SORT
+            } else {
+                LONG_OF_A_SORT
+            };
+            let sort: &mut usize = sorts.entry(name).or_default();
+            if short_enough(&frame, &answer)
+                && (things.insert(told(&frame, &answer)) || *sort < most)
+            {
+                *sort += 1;
+                stored.push(frame);
+            }
+        }
+    }
+    // A frame that has an answer, so that a last line which is lost is seen.
+    stored.push(Frame::Bytes(codec::root_frame(2f32.to_bits())));
+    stored
+}
+
+fn short_enough(frame: &Frame, answer: &[u8]) -> bool {
+    let call = answer[0] == CALL + 0x80;
+    !call
+        || frame
+            .bytes()
+            .is_some_and(|bytes| bytes.len() <= LONGEST_CALL)
+}
+
+/// What a frame meets: the kind of its answer and its fault or status; of a refused hull which rule, of any other call
+/// the type of its cache, of an accepted one also the next type, the hit and how many points.
+fn told(frame: &Frame, answer: &[u8]) -> [u8; 6] {
+    let kind = answer[0];
+    if kind != CALL + 0x80 {
+        let fault = if kind == 0xff { answer[1] } else { 0 };
+        return [kind, fault, 0, 0, 0, 0];
+    }
+    let bytes = frame.bytes().expect("a call has bytes");
+    let Ok(Asked::Call(given)) = codec::decode(bytes) else {
+        panic!("an answer to a call that is none");
+    };
+    let status = answer[STATUS];
+    let given_type = bytes[CACHE + TYPE].min(9);
+    let next = &answer[NEXT_CACHE..COUNT];
+    match status {
+        1 => [kind, 1, given.a.broken_rule(), 0, 0, 0],
+        2 => [kind, 2, given.b.broken_rule(), 0, 0, 0],
+        0 => {
+            let (next_type, hit) = (next[TYPE].min(9), next[HIT].min(2));
+            [kind, 0, given_type, next_type, hit, answer[COUNT]]
+        }
+        _ => [kind, status, given_type, 0, 0, 0],
+    }
+}

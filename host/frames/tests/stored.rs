@@ -1,0 +1,64 @@
+//! The stored frames are those that `store` writes, and hold what they are to hold.
+#![cfg(rust_text)]
+
+use frames::{stored, wanted};
+use std::collections::HashSet;
+use std::fs;
+use std::path::Path;
+
+fn read(name: &str) -> Vec<u8> {
+    let folder = Path::new(env!("CARGO_MANIFEST_DIR")).join("../../crates/contact");
+    fs::read(folder.join(name)).expect("the file is there")
+}
+
+#[test]
+fn files_are_those_that_store_writes() {
+    let (input, output) = stored::files();
+    assert!(read("stdin") == input && read("stdout") == output);
+}
+
+#[test]
+fn answers_are_those_that_are_wanted() {
+    assert!(wanted::to_input(&read("stdin")) == Some(read("stdout")));
+}
+
+/// Each fault, each refusal that can be met, each type of cache and each count of points; the last line lacks its end.
+#[test]
+fn all_that_must_be_is_stored() {
+    let (input, output) = (read("stdin"), read("stdout"));
+    assert_ne!(input.last(), Some(&b'\n'));
+    let lines: Vec<&[u8]> = input.split(|&byte| byte == b'\n').collect();
+    let answers: Vec<&[u8]> = output
+        .strip_suffix(b"\n")
+        .expect("a line end")
+        .split(|&byte| byte == b'\n')
+        .collect();
+    assert_eq!(lines.len(), answers.len());
+    let begins: HashSet<&[u8]> = answers.iter().map(|answer| &answer[..4]).collect();
+    for begin in ["ff08", "ff21", "ff22", "ff23", "ff24"] {
+        assert!(begins.contains(begin.as_bytes()), "{begin}");
+    }
+    for refusal in 0..=6 {
+        let begin = format!("92{refusal:02x}");
+        assert!(begins.contains(begin.as_bytes()), "{begin}");
+    }
+    let accepted = lines
+        .iter()
+        .zip(&answers)
+        .filter(|(_, answer)| answer.starts_with(b"9200"));
+    let (types, counts): (HashSet<&[u8]>, HashSet<&[u8]>) = accepted
+        .map(|(line, answer)| (&line[18..20], &answer[20..22]))
+        .unzip();
+    for cache_type in 0..10 {
+        assert!(
+            types.contains(format!("{cache_type:02x}").as_bytes()),
+            "type {cache_type}"
+        );
+    }
+    for count in 0..=4 {
+        assert!(
+            counts.contains(format!("{count:02x}").as_bytes()),
+            "{count} points"
+        );
+    }
+}
