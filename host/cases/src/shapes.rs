@@ -168,8 +168,8 @@ impl Shape {
         for axis in 0..3 {
             let first = self.coordinate(axis, 0);
             let list = &self.numbers[first..first + self.size.vertices];
-            let low = list.iter().copied().fold(f32::INFINITY, f32::min);
-            let high = list.iter().copied().fold(f32::NEG_INFINITY, f32::max);
+            let low = list.iter().copied().fold(f32::INFINITY, lower);
+            let high = list.iter().copied().fold(f32::NEG_INFINITY, higher);
             self.numbers[axis] = low;
             self.numbers[3 + axis] = high;
         }
@@ -243,8 +243,25 @@ fn plane(corners: impl Iterator<Item = [f32; 3]>) -> [f32; 4] {
     let area = area.reduce(add).expect("a loop has three corners");
     let normal = area.map(|x| (x / dot(area, area).sqrt()) as f32);
     let heights = corners.iter().map(|&c| dot(normal.map(f64::from), c));
-    let offset = heights.fold(f64::NEG_INFINITY, f64::max) as f32;
+    let offset = heights.fold(f64::NEG_INFINITY, higher) as f32;
     [normal[0], normal[1], normal[2], offset]
+}
+
+/// Of two zeros the first, where the library's own leaves the sign to the machine.
+fn lower<T: PartialOrd>(a: T, b: T) -> T {
+    if b < a {
+        b
+    } else {
+        a
+    }
+}
+
+pub(crate) fn higher<T: PartialOrd>(a: T, b: T) -> T {
+    if b > a {
+        b
+    } else {
+        a
+    }
 }
 
 pub(crate) fn add(a: [f64; 3], b: [f64; 3]) -> [f64; 3] {

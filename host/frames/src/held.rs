@@ -63,7 +63,8 @@ impl<'a> Held<'a> {
         }
     }
 
-    fn show(&self, place: Place, wanted: &[u8], came: Came) {
+    /// The frame, the answer that is wanted and the one that came.
+    pub fn show(&self, place: Place, wanted: &[u8], came: Came) {
         let frame = &self.frames.unit(place.unit)[place.number];
         let name = self.frames.sorts()[self.frames.sort_of(place.unit)].name;
         let Place { unit, number } = place;
@@ -84,8 +85,8 @@ impl<'a> Held<'a> {
         eprintln!("wrong: {what}");
     }
 
-    /// Prints what was met and what differed; whether all is right.
-    pub fn report(&self, program: bool) -> bool {
+    /// Prints what was met and what differed.
+    pub fn report(&self, program: bool) -> Verdict {
         let met = self.mix.report(self.frames, program);
         let seconds = self.start.elapsed().as_secs_f64();
         println!(
@@ -94,7 +95,23 @@ impl<'a> Held<'a> {
             self.frames.seed(),
             self.different
         );
-        met && self.different == 0 && self.compared == self.wanted
+        Verdict {
+            different: self.different,
+            met: met && self.compared == self.wanted,
+        }
+    }
+}
+
+/// How many answers differ, and whether all that must be was met.
+#[derive(Debug, Clone, Copy, PartialEq, Eq)]
+pub struct Verdict {
+    pub different: u64,
+    pub met: bool,
+}
+
+impl Verdict {
+    pub fn good(self) -> bool {
+        self.different == 0 && self.met
     }
 }
 

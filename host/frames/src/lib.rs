@@ -3,8 +3,11 @@
 //! answers. Nothing here calls the proved code.
 
 pub mod codec;
+pub mod faults;
+pub mod fuzz;
 pub mod held;
 pub mod hex;
+pub mod library;
 pub mod mix;
 pub mod program;
 pub mod sorts;

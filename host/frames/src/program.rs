@@ -2,7 +2,7 @@
 //! that document 01 wants. One thread writes to it and another reads from it, so that neither waits for the other
 //! whatever the program keeps back.
 
-use crate::held::{Came, Held};
+use crate::held::{Came, Held, Verdict};
 use crate::sorts::{Frames, Place};
 use crate::wanted;
 use std::collections::VecDeque;
@@ -17,8 +17,8 @@ const AHEAD: usize = 256;
 /// What is sent and not yet answered.
 type Waiting = VecDeque<(Place, Vec<u8>)>;
 
-/// So many frames, the last without its line end; whether every answer is the wanted one and all was met.
-pub fn run(frames: &Frames, count: usize, command: &mut Command) -> io::Result<bool> {
+/// So many frames, the last without its line end.
+pub fn run(frames: &Frames, count: usize, command: &mut Command) -> io::Result<Verdict> {
     let mut child = start(command)?;
     let (to_writer, lines) = sync_channel(AHEAD);
     let writer = write_from(lines, child.stdin.take().expect("a pipe"));
@@ -115,7 +115,7 @@ pub fn ends(command: &mut Command) -> io::Result<bool> {
     let mut good = true;
     for input in &inputs {
         let output = whole(command, input.as_bytes())?;
-        let wanted = crate::wanted::to_input(input.as_bytes()).expect("no call is among them");
+        let wanted = wanted::to_input(input.as_bytes()).expect("no call is among them");
         if output != wanted {
             let [input, output, wanted] =
                 [input.as_bytes(), &output, &wanted].map(<[u8]>::escape_ascii);

@@ -1,7 +1,8 @@
 //! The stored frames are those that `store` writes, and hold what they are to hold.
 #![cfg(rust_text)]
 
-use frames::{stored, wanted};
+use frames::codec::{decode, Asked};
+use frames::{hex, stored, wanted};
 use std::collections::HashSet;
 use std::fs;
 use std::path::Path;
@@ -22,7 +23,16 @@ fn answers_are_those_that_are_wanted() {
     assert!(wanted::to_input(&read("stdin")) == Some(read("stdout")));
 }
 
-/// Each fault, each refusal that can be met, each type of cache and each count of points; the last line lacks its end.
+/// The first rule that hull A or hull B of a call breaks.
+fn broken_rule(line: &[u8], side: usize) -> u8 {
+    let frame = hex::read(line).expect("a call is digits");
+    let Ok(Asked::Call(mut given)) = decode(&frame) else {
+        panic!("the line is no call");
+    };
+    given.side(side).broken_rule()
+}
+
+/// Each fault, each refusal that can be met, each rule of either hull, each type of cache and each count of points; the last line lacks its end.
 #[test]
 fn all_that_must_be_is_stored() {
     let (input, output) = (read("stdin"), read("stdout"));

@@ -2,7 +2,7 @@
 
 use super::turns::turned;
 use crate::shapes::solids::Solid;
-use crate::shapes::{cross, dot, sub};
+use crate::shapes::{cross, dot, higher, sub};
 
 /// Corners, the directions out of the faces, and the directions of the edges, each once.
 pub struct Body {
@@ -47,7 +47,7 @@ impl Body {
     /// How far the body reaches in a direction.
     fn reach(&self, way: [f64; 3]) -> f64 {
         let heights = self.corners.iter().map(|&c| dot(c, way));
-        heights.fold(f64::NEG_INFINITY, f64::max)
+        heights.fold(f64::NEG_INFINITY, higher)
     }
 }
 

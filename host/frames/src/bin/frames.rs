@@ -31,9 +31,9 @@ fn main() {
     }
     let mut command = Command::new(&words[0]);
     command.args(&words[1..]);
-    let held = program::ends(&mut command).and_then(|good| {
-        Ok(program::run(&Frames::new(seed), count as usize, &mut command)? & good)
-    });
+    let frames = Frames::new(seed);
+    let held = program::ends(&mut command)
+        .and_then(|good| Ok(program::run(&frames, count as usize, &mut command)?.good() & good));
     match held {
         Ok(good) => exit(if good { 0 } else { 1 }),
         Err(error) => {

@@ -1,0 +1,232 @@
+//! Faults that a program could have, each with what it then answers to a line. The comparison is tried on them, so that
+//! it is seen to tell each.
+
+use crate::codec::{
+    self, Fault, A_POINT, CACHE, CALL, CAPACITY, COUNT, HIT, LONGEST_ANSWER, NEXT_CACHE, NORMAL,
+    POINTS, ROOT, STATUS, TRANSFORM,
+};
+use crate::{hex, wanted, LONGEST_LINE};
+
+/// What is answered to a line with its end, where it has one; none where nothing is printed.
+type Answers = fn(&[u8]) -> Option<Vec<u8>>;
+
+/// The right answer.
+pub fn right(line: &[u8]) -> Option<Vec<u8>> {
+    wanted::to_line(without_end(line))
+}
+
+fn without_end(line: &[u8]) -> &[u8] {
+    line.strip_suffix(b"\n").unwrap_or(line)
+}
+
+/// The right answer to a call, changed.
+fn of_call(line: &[u8], change: impl FnOnce(&mut [u8])) -> Option<Vec<u8>> {
+    let mut answer = right(line)?;
+    if answer[0] == CALL + 0x80 {
+        change(&mut answer);
+    }
+    Some(answer)
+}
+
+/// The right answer to another line.
+fn to_changed(line: &[u8], change: impl FnOnce(&mut Vec<u8>)) -> Option<Vec<u8>> {
+    let mut line = without_end(line).to_vec();
+    change(&mut line);
+    right(&line)
+}
+
+/// The right answer to a call's frame, changed.
+fn to_changed_call(line: &[u8], change: impl FnOnce(&mut [u8])) -> Option<Vec<u8>> {
+    to_changed(line, |line| {
+        let Some(mut frame) = hex::read(line) else {
+            return;
+        };
+        if frame.first() == Some(&CALL) && frame.len() > codec::HULL_A {
+            change(&mut frame);
+            *line = hex::written(&frame);
+        }
+    })
+}
+
+fn point(number: usize) -> std::ops::Range<usize> {
+    let from = POINTS + A_POINT * number;
+    from..from + A_POINT
+}
+
+pub const FAULTS: [(&str, Answers); 28] = [
+    ("low byte first in a root", |line| {
+        let mut answer = right(line)?;
+        if answer[0] == ROOT + 0x80 {
+            answer[1..].reverse();
+        }
+        Some(answer)
+    }),
+    ("low byte first in a normal", |line| {
+        of_call(line, |answer| answer[NORMAL..NORMAL + 4].reverse())
+    }),
+    ("a NaN with other bits", |line| {
+        let mut answer = right(line)?;
+        if answer[..] == [ROOT + 0x80, 0x7f, 0xc0, 0, 0] {
+            answer[1] = 0xff;
+        }
+        Some(answer)
+    }),
+    ("some roots one float off", |line| {
+        let mut answer = right(line)?;
+        if answer[0] == ROOT + 0x80 && answer[4] & 7 == 6 {
+            answer[4] += 1;
+        }
+        Some(answer)
+    }),
+    ("the status one higher", |line| {
+        of_call(line, |answer| {
+            answer[STATUS] += u8::from(answer[STATUS] > 0)
+        })
+    }),
+    ("refusals 1 and 2 in the other order", |line| {
+        of_call(line, |answer| {
+            if (1..=2).contains(&answer[STATUS]) {
+                answer[STATUS] = 3 - answer[STATUS];
+            }
+        })
+    }),
+    ("a point doubled", |line| {
+        of_call(line, |answer| {
+            if answer[COUNT] > 1 {
+                answer.copy_within(point(0), point(1).start);
+            }
+        })
+    }),
+    ("two points exchanged", |line| {
+        of_call(line, |answer| {
+            if answer[COUNT] == 4 {
+                let last = answer[point(3)].to_vec();
+                answer.copy_within(point(2), point(3).start);
+                answer[point(2)].copy_from_slice(&last);
+            }
+        })
+    }),
+    ("a count without its last point", |line| {
+        of_call(line, |answer| {
+            if let Some(last) = usize::from(answer[COUNT]).checked_sub(1) {
+                answer[point(last)].fill(0);
+            }
+        })
+    }),
+    ("a place above the count not cleared", |line| {
+        of_call(line, |answer| {
+            if answer[COUNT] < 4 {
+                answer[LONGEST_ANSWER - 1] = 1;
+            }
+        })
+    }),
+    ("a normal without points", |line| {
+        of_call(line, |answer| {
+            if answer[STATUS] == 0 && answer[COUNT] == 0 {
+                answer[NORMAL] = 0x3f;
+            }
+        })
+    }),
+    ("the hit not set", |line| {
+        of_call(line, |answer| {
+            if answer[STATUS] == 0 {
+                answer[NEXT_CACHE + HIT] = 0;
+            }
+        })
+    }),
+    ("the hit cleared on a refusal", |line| {
+        of_call(line, |answer| {
+            if answer[STATUS] != 0 {
+                answer[NEXT_CACHE + HIT] = 0;
+            }
+        })
+    }),
+    ("a kept NaN made plain", |line| {
+        of_call(line, |answer| {
+            let bits = u32::from_be_bytes(answer[NEXT_CACHE..][..4].try_into().expect("four"));
+            if f32::from_bits(bits).is_nan() {
+                answer[NEXT_CACHE..][..4].copy_from_slice(&[0x7f, 0xc0, 0, 0]);
+            }
+        })
+    }),
+    ("the capacity without a sign", |line| {
+        to_changed_call(line, |frame| frame[CAPACITY] &= 0x7f)
+    }),
+    ("the capacity's low byte alone", |line| {
+        to_changed_call(line, |frame| frame[CAPACITY..CAPACITY + 3].fill(0))
+    }),
+    ("the indices of a cache exchanged", |line| {
+        to_changed_call(line, |frame| frame.swap(CACHE + 5, CACHE + 6))
+    }),
+    ("the scalar of a quaternion first", |line| {
+        to_changed_call(line, |frame| {
+            frame[TRANSFORM + 12..TRANSFORM + 28].rotate_left(4)
+        })
+    }),
+    ("upper case read", |line| {
+        to_changed(line, |line| line.make_ascii_lowercase())
+    }),
+    ("a digit too many passed over", |line| {
+        to_changed(line, |line| line.truncate(line.len() / 2 * 2))
+    }),
+    ("a carriage return passed over", |line| {
+        to_changed(line, |line| {
+            if line.last() == Some(&b'\r') {
+                line.pop();
+            }
+        })
+    }),
+    ("a line of 20,001 characters read", |line| {
+        let (frame, most) = (without_end(line), LONGEST_LINE + 1);
+        match hex::read(frame) {
+            None if frame.len() == most => Some(Fault::NotHex.answer()),
+            _ => right(line),
+        }
+    }),
+    ("a line of 20,000 characters too long", |line| {
+        if without_end(line).len() == LONGEST_LINE {
+            return Some(Fault::TooLong.answer());
+        }
+        right(line)
+    }),
+    ("an empty line passed over", |line| {
+        if without_end(line).is_empty() {
+            return None;
+        }
+        right(line)
+    }),
+    ("the last line without its end lost", |line| {
+        line.ends_with(b"\n").then(|| right(line))?
+    }),
+    ("the length before the kind", |line| {
+        let answer = right(line)?;
+        if answer == Fault::NoKind.answer() && without_end(line).len() > 2 {
+            return Some(Fault::Length.answer());
+        }
+        Some(answer)
+    }),
+    ("what follows a root passed over", |line| {
+        to_changed(line, |line| {
+            if line.starts_with(b"10") {
+                line.truncate(10);
+            }
+        })
+    }),
+    ("any owner flipped", |line| {
+        let frame = without_end(line);
+        match right(line) {
+            Some(answer) if answer == Fault::Owner.answer() => {
+                let bytes = hex::read(frame)?;
+                let [owner1, owner2] = [bytes[1], bytes[3]].map(|owner| 1u8.wrapping_sub(owner));
+                Some(vec![codec::FLIP + 0x80, owner2, bytes[4], owner1, bytes[2]])
+            }
+            answer => answer,
+        }
+    }),
+];
+
+/// The answers with the fault of this name.
+pub fn named(name: &str) -> Option<Answers> {
+    let fault = FAULTS.into_iter().find(|&(own, _)| own == name);
+    fault.map(|(_, answers)| answers)
+}

@@ -1,0 +1,227 @@
+//! Any bytes through the library: frames of every sort that are changed a little or much, and bytes at random, into places
+//! of every size. Round `r` of a seed depends on these two numbers alone.
+
+use crate::codec::{CACHE, CALL, CAPACITY, FLIP, HULL_A, LONGEST_ANSWER, ROOT, STATUS, TRANSFORM};
+use crate::library::{Library, Room};
+use crate::sorts::Frames;
+use crate::{hex, wanted};
+use cases::Numbers;
+use std::time::{Duration, Instant};
+
+/// Frames that are changed.
+const FRAMES: usize = 4000;
+
+/// Longer ones are left to the other runs, so that there are more rounds.
+const LONGEST: usize = 10_000;
+
+/// How many differences are shown, and how often the run says how far it is.
+const SHOWN: u64 = 5;
+const BETWEEN: Duration = Duration::from_secs(10);
+
+pub struct Fuzz {
+    seed: u64,
+    frames: Vec<Vec<u8>>,
+}
+
+/// What came of the rounds.
+#[derive(Debug, Clone, Copy, Default, PartialEq, Eq)]
+pub struct Fuzzed {
+    pub rounds: u64,
+    pub different: u64,
+    roots_and_pairs: u64,
+    faults: u64,
+    accepted: u64,
+    refused: u64,
+    /// Into places that are too small.
+    small: u64,
+    /// Without an answer, since the Rust text would be needed.
+    untold: u64,
+}
+
+impl Fuzz {
+    pub fn new(seed: u64) -> Fuzz {
+        let all = Frames::new(seed);
+        let frames = all.iter().filter_map(|(_, frame)| match frame {
+            crate::Frame::Bytes(bytes) if bytes.len() <= LONGEST => Some(bytes),
+            _ => None,
+        });
+        Fuzz {
+            seed,
+            frames: frames.take(FRAMES).collect(),
+        }
+    }
+
+    /// From this round on, until the time is over or so many rounds were made.
+    pub fn run(
+        &self,
+        library: &mut impl Library,
+        from: u64,
+        rounds: u64,
+        time: Duration,
+    ) -> Fuzzed {
+        let start = Instant::now();
+        let mut said = start;
+        let mut fuzzed = Fuzzed::default();
+        for round in from..from.saturating_add(rounds) {
+            if start.elapsed() > time {
+                break;
+            }
+            self.round(round, library, &mut fuzzed);
+            if said.elapsed() > BETWEEN {
+                said = Instant::now();
+                println!("  {:.0} s: {fuzzed}", start.elapsed().as_secs_f64());
+            }
+        }
+        println!("seed {}, from round {from}: {fuzzed}", self.seed);
+        fuzzed
+    }
+
+    fn round(&self, round: u64, library: &mut impl Library, fuzzed: &mut Fuzzed) {
+        let base = Numbers::new(self.seed).word();
+        let mut numbers = Numbers::new(base.wrapping_add(round));
+        let n = &mut numbers;
+        let frame = self.frame(n);
+        let size = match n.below(8) {
+            0 => n.below(LONGEST_ANSWER),
+            1 => LONGEST_ANSWER - 1,
+            2 => LONGEST_ANSWER + n.below(98),
+            _ => LONGEST_ANSWER,
+        };
+        let wanted = if size < LONGEST_ANSWER {
+            Some(vec![])
+        } else {
+            wanted::to_frame(&frame)
+        };
+        let mut room = Room::new(size);
+        let came = room.ask(&frame, library);
+        fuzzed.add(wanted.as_deref());
+        let right = match (&came, &wanted) {
+            (Ok(came), Some(wanted)) => came == wanted,
+            (came, None) => came.is_ok(),
+            _ => false,
+        };
+        if !right {
+            fuzzed.different += 1;
+            if fuzzed.different <= SHOWN {
+                let text = |bytes: &[u8]| String::from_utf8(hex::written(bytes)).expect("digits");
+                eprintln!(
+                    "different: seed {}, round {round}, {size} bytes of room",
+                    self.seed
+                );
+                eprintln!(
+                    "  wanted {}",
+                    wanted.map_or("any".into(), |bytes| text(&bytes))
+                );
+                eprintln!("  came   {}", came.map_or_else(str::to_string, text));
+                eprintln!("  frame  {}", text(&frame));
+            }
+        }
+    }
+
+    /// One of the frames with one to four changes, or bytes at random.
+    fn frame(&self, n: &mut Numbers) -> Vec<u8> {
+        if n.below(16) == 0 {
+            return random(n);
+        }
+        let mut frame = self.any(n).clone();
+        for _ in 0..1 + n.below(4) {
+            self.change(&mut frame, n);
+        }
+        frame
+    }
+
+    fn any(&self, n: &mut Numbers) -> &Vec<u8> {
+        &self.frames[n.below(self.frames.len())]
+    }
+
+    fn change(&self, frame: &mut Vec<u8>, n: &mut Numbers) {
+        if frame.is_empty() {
+            frame.push(n.word() as u8);
+            return;
+        }
+        let place = n.below(frame.len());
+        match n.below(12) {
+            // A bit, a byte, or a number of any sort.
+            0 | 1 => frame[place] ^= 1 << n.below(8),
+            2 => frame[place] = n.word() as u8,
+            3 => put(frame, place, &n.float().to_bits().to_be_bytes()),
+            // In the head of a call: its capacity, its cache, its transform, the sizes of its first hull.
+            4 => put(frame, CAPACITY, &(n.below(9) as i32 - 2).to_be_bytes()),
+            5 => put(frame, CACHE + n.below(8), &[n.below(12) as u8]),
+            6 => put(
+                frame,
+                TRANSFORM + 4 * n.below(7),
+                &n.float().to_bits().to_be_bytes(),
+            ),
+            7 => put(frame, HULL_A + n.below(6), &[n.word() as u8]),
+            // Cut, longer, or joined to another.
+            8 => frame.truncate(place),
+            9 => {
+                let more = (0..1 + n.below(9)).map(|_| n.word() as u8);
+                frame.splice(place..place, more).for_each(drop);
+            }
+            10 => {
+                let until = frame.len().min(place + 1 + n.below(9));
+                frame.drain(place..until);
+            }
+            _ => {
+                let other = self.any(n);
+                let from = n.below(other.len() + 1);
+                frame.truncate(place);
+                frame.extend(&other[from..]);
+            }
+        }
+    }
+}
+
+/// A kind and up to 2,000 bytes, or any bytes.
+fn random(n: &mut Numbers) -> Vec<u8> {
+    let most = [6, 60, 2000][n.below(3)];
+    let mut frame: Vec<u8> = (0..n.below(most)).map(|_| n.word() as u8).collect();
+    if let (Some(first), true) = (frame.first_mut(), n.below(4) > 0) {
+        *first = [ROOT, FLIP, CALL][n.below(3)];
+    }
+    frame
+}
+
+/// Where the frame reaches so far.
+fn put(frame: &mut [u8], place: usize, bytes: &[u8]) {
+    if let Some(to) = frame.get_mut(place..place + bytes.len()) {
+        to.copy_from_slice(bytes);
+    }
+}
+
+impl Fuzzed {
+    fn add(&mut self, wanted: Option<&[u8]>) {
+        self.rounds += 1;
+        let count = match wanted {
+            None => &mut self.untold,
+            Some([]) => &mut self.small,
+            Some([0xff, ..]) => &mut self.faults,
+            Some(answer) if answer[0] != CALL + 0x80 => &mut self.roots_and_pairs,
+            Some(answer) if answer[STATUS] == 0 => &mut self.accepted,
+            Some(_) => &mut self.refused,
+        };
+        *count += 1;
+    }
+}
+
+impl std::fmt::Display for Fuzzed {
+    fn fmt(&self, f: &mut std::fmt::Formatter) -> std::fmt::Result {
+        let Fuzzed {
+            rounds,
+            different,
+            roots_and_pairs,
+            faults,
+            accepted,
+            refused,
+            small,
+            untold,
+        } = self;
+        write!(
+            f,
+            "{rounds} rounds, {different} different; roots and pairs {roots_and_pairs}, calls accepted {accepted}, refused \
+             {refused}, faults {faults}, too little room {small}, without an answer to hold it to {untold}"
+        )
+    }
+}

@@ -1,0 +1,84 @@
+//! The library that hosts link, held to the answers that document 01 wants.
+
+use crate::codec::{self, Asked, LONGEST_ANSWER};
+use crate::held::{Came, Held, Verdict};
+use crate::sorts::Frames;
+use crate::wanted;
+use cases::calls::{Answer, Call};
+
+/// The two functions that are exported, or stand-ins for them.
+pub trait Library {
+    /// The answer to a frame in bytes, written to `answer`: how many bytes it has. Where `answer` has fewer than 103,
+    /// that is 0 and nothing is written.
+    fn answer(&mut self, frame: &[u8], answer: &mut [u8]) -> usize;
+
+    fn collide(&mut self, call: &Call) -> Answer;
+}
+
+/// So many frames in bytes, and those that are calls through `collide` as well.
+pub fn run(frames: &Frames, count: usize, library: &mut impl Library) -> Verdict {
+    let mut held = Held::new(frames, count);
+    let told = frames.iter().filter_map(|(place, frame)| {
+        let wanted = wanted::to_frame(frame.bytes()?)?;
+        Some((place, frame, wanted))
+    });
+    for (place, frame, wanted) in told.take(count) {
+        held.sent(place, &frame, &wanted);
+        let bytes = frame.bytes().expect("told by its bytes");
+        let mut room = Room::new(LONGEST_ANSWER);
+        match room.ask(bytes, library) {
+            Ok(answer) => held.came(place, &wanted, Came::Bytes(answer)),
+            Err(what) => held.wrong(what),
+        }
+        if let Ok(Asked::Call(given)) = codec::decode(bytes) {
+            let answer = codec::call_answer(&library.collide(&given.call()));
+            if answer != wanted {
+                held.wrong("the call by records answers otherwise than the frame");
+                held.show(place, &wanted, Came::Bytes(&answer));
+            }
+        }
+    }
+    held.report(false)
+}
+
+/// So many bytes for an answer, with others before and after them that are to stay.
+pub struct Room {
+    bytes: Vec<u8>,
+    size: usize,
+}
+
+/// How many bytes are watched on either side.
+const WATCHED: usize = 64;
+
+/// A byte that no answer begins with.
+const MARK: u8 = 0x5a;
+
+impl Room {
+    pub fn new(size: usize) -> Room {
+        Room {
+            bytes: vec![MARK; size + 2 * WATCHED],
+            size,
+        }
+    }
+
+    /// The library's answer; or what is wrong, where it wrote to a place that is not for an answer or says that it wrote
+    /// more than there is room for.
+    pub fn ask(&mut self, frame: &[u8], library: &mut impl Library) -> Result<&[u8], &'static str> {
+        let end = WATCHED + self.size;
+        let length = library.answer(frame, &mut self.bytes[WATCHED..end]);
+        let most = if self.size < LONGEST_ANSWER {
+            0
+        } else {
+            LONGEST_ANSWER
+        };
+        if length > most {
+            return Err("the answer is longer than its place");
+        }
+        let (before, rest) = self.bytes.split_at(WATCHED);
+        let (place, after) = rest.split_at(most);
+        if before.iter().chain(after).any(|&byte| byte != MARK) {
+            return Err("a byte outside the answer's place was written");
+        }
+        Ok(&place[..length])
+    }
+}

@@ -1,0 +1,145 @@
+//! The comparisons tell a fault: each of a program, and some that only a library can have.
+#![cfg(rust_text)]
+
+use cases::calls::{Answer, Call};
+use frames::codec::LONGEST_ANSWER;
+use frames::faults::FAULTS;
+use frames::fuzz::Fuzz;
+use frames::library::{self, Library};
+use frames::sorts::Frames;
+use frames::{faults, hex, program, wanted};
+use std::process::Command;
+use std::time::Duration;
+
+const COUNT: usize = 4000;
+const ROUNDS: u64 = 4000;
+
+fn plain(fault: Option<&str>) -> Command {
+    let mut command = Command::new(env!("CARGO_BIN_EXE_plain"));
+    command.args(fault);
+    command
+}
+
+/// How many frames of a program's run are wrong, and whether its ends of lines are right.
+fn run(fault: Option<&str>) -> (u64, bool) {
+    let verdict = program::run(&Frames::new(1), COUNT, &mut plain(fault));
+    let ends = program::ends(&mut plain(fault));
+    let started = "the plain program runs";
+    (verdict.expect(started).different, ends.expect(started))
+}
+
+#[test]
+fn a_right_program_is_right() {
+    assert_eq!(run(None), (0, true));
+}
+
+#[test]
+fn each_fault_of_a_program_is_told() {
+    for (name, _) in FAULTS {
+        let (different, _) = run(Some(name));
+        assert!(different > 0, "{name}");
+    }
+}
+
+#[test]
+fn a_program_that_ends_early_is_told() {
+    let verdict = program::run(&Frames::new(1), COUNT, &mut Command::new("true"));
+    assert!(verdict.is_ok_and(|verdict| verdict.different > 0));
+}
+
+/// A stand-in for the library, right but for one thing.
+struct StandIn {
+    /// Answers as a program with this fault does.
+    fault: &'static str,
+    /// Writes into a place that is too small.
+    crowds: bool,
+    /// Writes one byte more than an answer can have.
+    overruns: bool,
+    /// Says one byte too few.
+    shortens: bool,
+    /// Leaves the hit of a call by records as it was.
+    keeps_hit: bool,
+}
+
+const RIGHT: StandIn = StandIn {
+    fault: "",
+    crowds: false,
+    overruns: false,
+    shortens: false,
+    keeps_hit: false,
+};
+
+impl Library for StandIn {
+    fn answer(&mut self, frame: &[u8], answer: &mut [u8]) -> usize {
+        if answer.len() < LONGEST_ANSWER && !self.crowds {
+            return 0;
+        }
+        let wanted = match faults::named(self.fault) {
+            Some(answers) => answers(&hex::written(frame)),
+            None => wanted::to_frame(frame),
+        };
+        let wanted = wanted.expect("the Rust text is at hand");
+        let length = wanted.len().min(answer.len());
+        answer[..length].copy_from_slice(&wanted[..length]);
+        if self.overruns && answer.len() > LONGEST_ANSWER {
+            answer[LONGEST_ANSWER] = 0;
+        }
+        length - usize::from(self.shortens)
+    }
+
+    fn collide(&mut self, call: &Call) -> Answer {
+        let mut answer = call.wanted();
+        if self.keeps_hit {
+            answer.cache.hit = call.cache.hit;
+        }
+        answer
+    }
+}
+
+fn fuzzed(mut library: StandIn) -> u64 {
+    let time = Duration::from_secs(600);
+    Fuzz::new(1).run(&mut library, 0, ROUNDS, time).different
+}
+
+fn held(mut library: StandIn) -> u64 {
+    library::run(&Frames::new(1), COUNT, &mut library).different
+}
+
+#[test]
+fn a_right_library_is_right() {
+    assert_eq!((fuzzed(RIGHT), held(RIGHT)), (0, 0));
+}
+
+#[test]
+fn faults_of_a_library_are_told() {
+    for fault in [
+        "low byte first in a root",
+        "the status one higher",
+        "a NaN with other bits",
+        "a point doubled",
+        "a place above the count not cleared",
+        "the scalar of a quaternion first",
+        "any owner flipped",
+    ] {
+        let library = || StandIn { fault, ..RIGHT };
+        assert!(held(library()) > 0 && fuzzed(library()) > 0, "{fault}");
+    }
+    let shortens = || StandIn {
+        shortens: true,
+        ..RIGHT
+    };
+    assert!(held(shortens()) > 0 && fuzzed(shortens()) > 0);
+}
+
+#[test]
+fn bytes_outside_the_answer_are_told() {
+    let (crowds, overruns) = (true, true);
+    assert!(fuzzed(StandIn { crowds, ..RIGHT }) > 0);
+    assert!(fuzzed(StandIn { overruns, ..RIGHT }) > 0);
+}
+
+#[test]
+fn a_call_by_records_is_told() {
+    let keeps_hit = true;
+    assert!(held(StandIn { keeps_hit, ..RIGHT }) > 0);
+}
