@@ -52,6 +52,14 @@ fn all_that_must_be_is_stored() {
         let begin = format!("92{refusal:02x}");
         assert!(begins.contains(begin.as_bytes()), "{begin}");
     }
+    for (refusal, side) in [(b"9201", 0), (b"9202", 1)] {
+        let refused = lines
+            .iter()
+            .zip(&answers)
+            .filter(|(_, answer)| answer.starts_with(refusal));
+        let rules: HashSet<u8> = refused.map(|(line, _)| broken_rule(line, side)).collect();
+        assert_eq!(rules, HashSet::from_iter(1..=8), "hull {side}");
+    }
     let accepted = lines
         .iter()
         .zip(&answers)

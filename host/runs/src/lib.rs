@@ -2,6 +2,7 @@
 
 use cases::calls::{Answer, Call};
 use cases::shapes::Shape;
+use frames::library::Library;
 use probes::Accepted;
 
 #[cfg(rust_text)]
@@ -21,4 +22,17 @@ pub fn ours(call: &Call) -> Answer {
     let outcome =
         contact::collide_with(call.capacity, &call.a, &call.b, call.transform, &mut cache);
     Answer { outcome, cache }
+}
+
+/// The proved library that hosts link.
+pub struct Proved;
+
+impl Library for Proved {
+    fn answer(&mut self, frame: &[u8], answer: &mut [u8]) -> usize {
+        contact::answer_into(frame, answer)
+    }
+
+    fn collide(&mut self, call: &Call) -> Answer {
+        ours(call)
+    }
 }

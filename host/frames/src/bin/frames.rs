@@ -4,7 +4,7 @@
 //!
 //! Prints how often each sort of frame, fault, refusal, rule and cache type was met, then how many frames were compared
 //! and how many answers differ. The run fails where an answer differs or something that must be met was not, as with a
-//! COUNT below 20,000. Without the Rust text, calls that do any work are left out, and said so.
+//! COUNT below 50,000. Without the Rust text, calls that do any work are left out, and said so.
 
 use frames::program;
 use frames::sorts::Frames;

@@ -1,7 +1,7 @@
 //! Refusals before any work, one rule broken or several, and capacities below 4, with which nothing is looked at.
 
-use cases::calls::broken::{hull, transform, Broken, Given};
-use cases::calls::{caches, empty, same_answers, Call};
+use cases::calls::broken::{hull, transform, Broken};
+use cases::calls::{caches, empty, same_answers, Call, Given};
 use cases::{met, one_in, Numbers, Tally};
 use records::{Hull, HullSize};
 use runs::ours;

@@ -1,0 +1,166 @@
+//! Document 01's runs through the wrapper: two cubes of half-size 1, and what the wrapper says of refusals and lengths.
+
+use contact::*;
+
+/// V 8, H 24, F 6.
+const SIZE: HullSize = HullSize {
+    vertices: 8,
+    half_edges: 24,
+    faces: 6,
+};
+
+/// The corners of each face of a cube, counterclockwise seen from outside; a corner's signs are the bits of its number.
+/// Faces -x, +x, -y, +y, -z, +z.
+const FACES: [[u8; 4]; 6] = [
+    [0, 4, 6, 2],
+    [1, 3, 7, 5],
+    [0, 1, 5, 4],
+    [2, 6, 7, 3],
+    [0, 2, 3, 1],
+    [4, 5, 7, 6],
+];
+
+struct Cube {
+    numbers: Vec<f32>,
+    links: Vec<u8>,
+}
+
+impl Cube {
+    fn new() -> Cube {
+        let mut numbers = vec![-1.0, -1.0, -1.0, 1.0, 1.0, 1.0];
+        for axis in 0..3 {
+            numbers.extend((0..8).map(|corner| if corner >> axis & 1 == 1 { 1.0 } else { -1.0 }));
+        }
+        for face in 0..6 {
+            let mut normal = [0.0; 3];
+            normal[face / 2] = if face % 2 == 1 { 1.0 } else { -1.0 };
+            numbers.extend(normal);
+            numbers.push(1.0);
+        }
+        Cube {
+            numbers,
+            links: links(),
+        }
+    }
+
+    fn hull(&self) -> Hull<'_> {
+        Hull::new(SIZE, &self.numbers, &self.links).expect("the lists fit")
+    }
+}
+
+/// Half-edges are numbered as the faces meet them, twins side by side.
+fn links() -> Vec<u8> {
+    let sides = |face: usize| (0..4).map(move |i| (FACES[face][i], FACES[face][(i + 1) % 4]));
+    let mut edges: Vec<(u8, u8)> = Vec::new();
+    for (from, to) in (0..6).flat_map(sides) {
+        if !edges.contains(&(from, to)) {
+            edges.extend([(from, to), (to, from)]);
+        }
+    }
+    let number = |side: (u8, u8)| edges.iter().position(|&e| e == side).expect("an edge") as u8;
+    let mut half_edges = [[0; 4]; 24];
+    let (mut vertices, mut faces) = ([0; 8], [0; 6]);
+    for face in 0..6 {
+        let ring: Vec<u8> = sides(face).map(number).collect();
+        for (i, &edge) in ring.iter().enumerate() {
+            let origin = FACES[face][i];
+            half_edges[usize::from(edge)] = [ring[(i + 1) % 4], edge ^ 1, origin, face as u8];
+            vertices[usize::from(origin)] = edge;
+            faces[face] = edge;
+        }
+    }
+    [&vertices[..], half_edges.as_flattened(), &faces].concat()
+}
+
+fn at(x: f32) -> Transform {
+    Transform {
+        p: Vec3 { x, y: 0.0, z: 0.0 },
+        q: Quat::IDENTITY,
+    }
+}
+
+#[test]
+fn apart_then_hit() {
+    let cube = Cube::new();
+    let mut cache = SatCache::EMPTY;
+    let outcome = collide(&cube.hull(), &cube.hull(), at(3.0), &mut cache);
+    assert_eq!(outcome.accepted(), Ok(Contact::EMPTY));
+    let separation = f32::from_bits(cache.separation);
+    assert_eq!(
+        (separation, cache.kind, cache.index_a, cache.hit),
+        (1.0, 2, 1, 0)
+    );
+    let _ = collide(&cube.hull(), &cube.hull(), at(3.0), &mut cache);
+    assert_eq!(cache.hit, 1);
+}
+
+#[test]
+fn touching() {
+    let cube = Cube::new();
+    let mut cache = SatCache::EMPTY;
+    let outcome = collide(&cube.hull(), &cube.hull(), at(2.0), &mut cache);
+    assert_eq!(outcome.refusal(), None);
+    assert_eq!(outcome.points().len(), 4);
+    assert!(outcome.points().iter().all(|point| point.separation == 0.0));
+    assert_eq!(outcome.contact.normal.x, 1.0);
+    assert_eq!((cache.kind, cache.separation), (3, 0));
+
+    let before = cache;
+    let outcome = collide_with(3, &cube.hull(), &cube.hull(), at(2.0), &mut cache);
+    assert_eq!(outcome.accepted(), Ok(Contact::EMPTY));
+    assert_eq!(cache, before);
+}
+
+#[test]
+fn refusals() {
+    let (cube, mut broken) = (Cube::new(), Cube::new());
+    broken.numbers[0] = f32::NAN;
+    let face_9 = SatCache {
+        kind: 2,
+        index_a: 9,
+        ..SatCache::EMPTY
+    };
+    let (good, broken) = (cube.hull(), broken.hull());
+    let short = Hull::lent(SIZE, &[], &cube.links);
+    for (a, b, x, cache, refusal) in [
+        (&broken, &broken, f32::NAN, face_9, Refusal::HullA),
+        (&short, &good, 2.0, SatCache::EMPTY, Refusal::HullA),
+        (&good, &broken, f32::NAN, face_9, Refusal::HullB),
+        (&good, &good, f32::NAN, face_9, Refusal::Transform),
+        (&good, &good, 2.0, face_9, Refusal::Cache),
+    ] {
+        let mut next = cache;
+        let outcome = collide(a, b, at(x), &mut next);
+        assert_eq!(outcome.accepted(), Err(refusal));
+        assert_eq!((outcome.contact, next), (Contact::EMPTY, cache));
+    }
+}
+
+#[test]
+fn lists_that_do_not_fit() {
+    let Cube { numbers, links } = Cube::new();
+    let wanted = Some(54);
+    assert_eq!(
+        Hull::new(SIZE, &numbers[1..], &links).map(|_| ()),
+        Err(HullError::Numbers { wanted, found: 53 })
+    );
+    let huge = HullSize {
+        vertices: usize::MAX,
+        ..SIZE
+    };
+    let error = Hull::new(huge, &numbers, &links).map(|_| ());
+    assert!(error.is_err_and(|error| error.to_string().starts_with("no hull is so large")));
+    let error = Hull::new(SIZE, &numbers, &links[..100]).map(|_| ());
+    assert!(error.is_err_and(|error| error.to_string().ends_with("110 links, not 100")));
+}
+
+#[test]
+fn frames() {
+    assert_eq!(*answer(&[0x11, 0, 3, 1, 9]), [0x91, 0, 9, 1, 3]);
+    assert_eq!(*answer(&[0x11, 2, 3, 1, 9]), [0xff, 0x08]);
+    assert_eq!(*answer(&[0x10, 0x40]), [0xff, 0x23]);
+    assert_eq!(*answer(&[]), [0xff, 0x22]);
+    let mut small = [7; LONGEST_ANSWER - 1];
+    assert_eq!(answer_into(&[0x10, 0x40, 0x80, 0, 0], &mut small), 0);
+    assert_eq!(small, [7; LONGEST_ANSWER - 1]);
+}
