@@ -4,7 +4,7 @@
 use crate::codec::{CACHE, CALL, CAPACITY, FLIP, HULL_A, LONGEST_ANSWER, ROOT, STATUS, TRANSFORM};
 use crate::library::{Library, Room};
 use crate::sorts::Frames;
-use crate::{hex, wanted};
+use crate::{hex, wanted, Frame};
 use cases::Numbers;
 use std::time::{Duration, Instant};
 
@@ -42,7 +42,7 @@ impl Fuzz {
     pub fn new(seed: u64) -> Fuzz {
         let all = Frames::new(seed);
         let frames = all.iter().filter_map(|(_, frame)| match frame {
-            crate::Frame::Bytes(bytes) if bytes.len() <= LONGEST => Some(bytes),
+            Frame::Bytes(bytes) if bytes.len() <= LONGEST => Some(bytes),
             _ => None,
         });
         Fuzz {
@@ -81,10 +81,10 @@ impl Fuzz {
         let mut numbers = Numbers::new(base.wrapping_add(round));
         let n = &mut numbers;
         let frame = self.frame(n);
-        let size = match n.below(8) {
+        let size = match n.below(16) {
             0 => n.below(LONGEST_ANSWER),
             1 => LONGEST_ANSWER - 1,
-            2 => LONGEST_ANSWER + n.below(98),
+            2 | 3 => LONGEST_ANSWER + n.below(98),
             _ => LONGEST_ANSWER,
         };
         let wanted = if size < LONGEST_ANSWER {
@@ -120,12 +120,16 @@ impl Fuzz {
 
     /// One of the frames with one to four changes, or bytes at random.
     fn frame(&self, n: &mut Numbers) -> Vec<u8> {
-        if n.below(16) == 0 {
+        if n.below(32) == 0 {
             return random(n);
         }
         let mut frame = self.any(n).clone();
-        for _ in 0..1 + n.below(4) {
-            self.change(&mut frame, n);
+        for _ in 0..[1, 1, 2, 4][n.below(4)] {
+            if n.below(8) == 0 {
+                self.change_length(&mut frame, n);
+            } else {
+                change(&mut frame, n);
+            }
         }
         frame
     }
@@ -134,33 +138,16 @@ impl Fuzz {
         &self.frames[n.below(self.frames.len())]
     }
 
-    fn change(&self, frame: &mut Vec<u8>, n: &mut Numbers) {
-        if frame.is_empty() {
-            frame.push(n.word() as u8);
-            return;
-        }
-        let place = n.below(frame.len());
-        match n.below(12) {
-            // A bit, a byte, or a number of any sort.
-            0 | 1 => frame[place] ^= 1 << n.below(8),
-            2 => frame[place] = n.word() as u8,
-            3 => put(frame, place, &n.float().to_bits().to_be_bytes()),
-            // In the head of a call: its capacity, its cache, its transform, the sizes of its first hull.
-            4 => put(frame, CAPACITY, &(n.below(9) as i32 - 2).to_be_bytes()),
-            5 => put(frame, CACHE + n.below(8), &[n.below(12) as u8]),
-            6 => put(
-                frame,
-                TRANSFORM + 4 * n.below(7),
-                &n.float().to_bits().to_be_bytes(),
-            ),
-            7 => put(frame, HULL_A + n.below(6), &[n.word() as u8]),
-            // Cut, longer, or joined to another.
-            8 => frame.truncate(place),
-            9 => {
-                let more = (0..1 + n.below(9)).map(|_| n.word() as u8);
+    /// Cut, longer, shorter, or joined to another.
+    fn change_length(&self, frame: &mut Vec<u8>, n: &mut Numbers) {
+        let place = n.below(frame.len() + 1);
+        match n.below(4) {
+            0 => frame.truncate(place),
+            1 => {
+                let more: Vec<u8> = (0..1 + n.below(9)).map(|_| n.word() as u8).collect();
                 frame.splice(place..place, more).for_each(drop);
             }
-            10 => {
+            2 => {
                 let until = frame.len().min(place + 1 + n.below(9));
                 frame.drain(place..until);
             }
@@ -171,6 +158,26 @@ impl Fuzz {
                 frame.extend(&other[from..]);
             }
         }
+    }
+}
+
+/// A bit, a byte or a number of any sort, anywhere; or in the head of a call its capacity, its cache, its transform or the
+/// sizes of its first hull.
+fn change(frame: &mut [u8], n: &mut Numbers) {
+    let place = n.below(frame.len() + 1);
+    let float = n.float().to_bits().to_be_bytes();
+    match n.below(9) {
+        0..=2 => {
+            if let Some(byte) = frame.get_mut(place) {
+                *byte ^= 1 << n.below(8);
+            }
+        }
+        3 => put(frame, place, &[n.word() as u8]),
+        4 => put(frame, place, &float),
+        5 => put(frame, CAPACITY, &(n.below(9) as i32 - 2).to_be_bytes()),
+        6 => put(frame, CACHE + n.below(8), &[n.below(12) as u8]),
+        7 => put(frame, TRANSFORM + 4 * n.below(7), &float),
+        _ => put(frame, HULL_A + n.below(6), &[n.below(130) as u8]),
     }
 }
 

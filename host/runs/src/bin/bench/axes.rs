@@ -2,7 +2,7 @@
 //! searched once a batch, so that the line of the whole mix is the mean over its true shares. The hulls and transforms
 //! were judged before.
 
-use super::{head, line_of, timed_calls};
+use super::{batches, head, line_of, timed_calls};
 use cases::convert;
 use cases::settled::{Class, Stack};
 use cases::Numbers;
@@ -76,7 +76,7 @@ pub fn run(n: &mut Numbers) {
 fn both(what: &str, pairs: &[&Pair]) {
     let (mut a, mut b) = (0, 0);
     line_of(
-        BATCHES,
+        batches(BATCHES),
         what,
         || {
             let (nanoseconds, apart) = timed_calls(pairs.len(), pairs, |pair| {
@@ -107,7 +107,8 @@ fn mix(answers: &[Searched]) {
     let with_pair = answers.iter().filter(|s| s.pair).count();
     let without = answers.len() - by_a - by_b - by_edges - with_pair;
     println!(
-        "  least of {BATCHES} batches; apart along a face of A {by_a}, of B {by_b}, along an edge pair {by_edges}; \
-         found with an edge pair {with_pair}, without {without}"
+        "  least of {} batches; apart along a face of A {by_a}, of B {by_b}, along an edge pair {by_edges}; \
+         found with an edge pair {with_pair}, without {without}",
+        batches(BATCHES)
     );
 }

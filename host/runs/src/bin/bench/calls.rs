@@ -3,23 +3,16 @@
 //! that takes by itself is timed in the same batches and taken off in a line of its own. Every call of the mix is made
 //! once a batch, so that its line is the mean over the true shares.
 
-use super::{head, least_of, row, timed_calls};
+use super::settled::{Settled, Step, PAIRS};
+use super::{batches, head, least_of, row, timed_calls};
 use cases::calls::{same_answers, Answer, Call};
-use cases::pairs::moved;
-use cases::settled::{Class, Pair, Stack};
-use cases::{convert, Numbers};
+use cases::convert;
+use cases::settled::Class;
 use oracle::hull::HullData;
 use oracle::math_functions as reading;
-use oracle::open::{self, collide_hulls, search, LocalManifold, SeparatingFeature};
+use oracle::open::{self, collide_hulls, LocalManifold};
 use probes::first_broken_rule;
-use records::{Hull, SatCache, Transform};
-
-const LOGS: usize = 64;
-const PAIRS: usize = 2000;
-const FRAMES: usize = 24;
-
-/// A frame's movement in metres and its turn in radians are at most this.
-const STEP: f32 = 3e-4;
+use records::Hull;
 
 /// Fewer than elsewhere, since a batch is long.
 const COLD_BATCHES: usize = 100;
@@ -36,14 +29,15 @@ struct Timed<'a> {
 
 impl<'a> Timed<'a> {
     /// Panics where the two sides differ.
-    fn new(class: Class, ours: Call<'a>, hulls: (&'a HullData, &'a HullData)) -> Self {
-        let answer = runs::ours(&ours);
-        let wanted = ours.wanted();
+    fn new(settled: &'a Settled, step: &Step) -> Self {
+        let ours = settled.call(step);
+        let (answer, wanted) = (runs::ours(&ours), step.wanted);
         assert!(same_answers(&answer, &wanted), "{answer:?}, {wanted:?}");
+        let (a, b) = settled.hulls(step);
         Timed {
-            class,
+            class: step.class(),
             ours,
-            theirs: (hulls.0, hulls.1, convert::transform(ours.transform)),
+            theirs: (a, b, convert::transform(ours.transform)),
             cache: convert::cache(ours.cache),
             answer,
         }
@@ -68,49 +62,15 @@ impl<'a> Timed<'a> {
     }
 }
 
-pub fn run(n: &mut Numbers) {
-    let stack = Stack::new(LOGS, PAIRS, n);
-    let hulls: Vec<HullData> = stack.logs.iter().map(convert::hull).collect();
-    let (mut cold, mut warm) = (Vec::new(), Vec::new());
-    for pair in &stack.pairs {
-        let of_pair = (&hulls[pair.a], &hulls[pair.b]);
-        let mut cache = SatCache::EMPTY;
-        for (frame, transform) in frames(pair, of_pair, n).into_iter().enumerate() {
-            let call = Call {
-                capacity: 4,
-                a: stack.logs[pair.a].lent(),
-                b: stack.logs[pair.b].lent(),
-                transform,
-                cache,
-            };
-            let timed = Timed::new(pair.class, call, of_pair);
-            cache = timed.answer.cache;
-            if frame == 0 { &mut cold } else { &mut warm }.push(timed);
-        }
-    }
+pub fn run(settled: &Settled) {
+    let timed = |step| Timed::new(settled, step);
+    let (first, later): (Vec<&Step>, Vec<&Step>) = settled.steps.iter().partition(|s| s.first);
+    let cold: Vec<Timed> = first.into_iter().map(timed).collect();
+    let warm: Vec<Timed> = later.into_iter().map(timed).collect();
     head(&format!("call, type 0, {PAIRS} settled pairs"), "Rust text");
-    rows(COLD_BATCHES, &cold);
+    rows(batches(COLD_BATCHES), &cold);
     head(&format!("call, warm, {} frames", warm.len()), "Rust text");
-    rows(WARM_BATCHES, &warm);
-}
-
-/// From where the pair lies, drawn anew until it stays apart or stays touching, as its class says.
-fn frames(pair: &Pair, (a, b): (&HullData, &HullData), n: &mut Numbers) -> Vec<Transform> {
-    loop {
-        let mut there = convert::transform(pair.transform);
-        let mut frames = Vec::new();
-        for _ in 0..FRAMES {
-            frames.push(convert::our_transform(there));
-            there = moved(there, STEP, n);
-        }
-        let stays = |&frame: &Transform| {
-            let feature = search(a, b, convert::transform(frame), true).separated_feature;
-            (feature != SeparatingFeature::InvalidAxis) == (pair.class == Class::Apart)
-        };
-        if frames.iter().all(stays) {
-            return frames;
-        }
-    }
+    rows(batches(WARM_BATCHES), &warm);
 }
 
 fn rows(batches: usize, calls: &[Timed]) {

@@ -1,9 +1,13 @@
 //! Times the proved layers beside the Rust, both sides in one run on the same inputs, and prints nanoseconds a call and
 //! their ratio. The least of many batches counts, since other work on the machine only ever adds.
 //!
-//!     bench
+//!     bench [quick] [-- PROGRAM [ARGUMENTS]]
+//!
+//! PROGRAM is the proved program, `target/bin/contact` where none is named. With `quick` there is one batch of each, to see
+//! that all of it runs; its times mean nothing.
 
 use cases::Numbers;
+use std::env::args;
 use std::hint::black_box;
 use std::time::Instant;
 
@@ -13,7 +17,13 @@ mod axes;
 mod calls;
 #[cfg(rust_text)]
 mod cuts;
+#[cfg(rust_text)]
+mod frames;
+#[cfg(rust_text)]
+mod programs;
 mod roots;
+#[cfg(rust_text)]
+mod settled;
 mod validators;
 
 const CALLS: usize = 1024;
@@ -21,19 +31,33 @@ const BATCHES: usize = 600;
 
 fn main() {
     let mut numbers = Numbers::new(1);
-    println!("least of {BATCHES} batches, ns a call");
+    println!("least of {} batches, ns a call", batches(BATCHES));
     roots::run(&mut numbers);
     validators::run(&mut numbers);
     #[cfg(rust_text)]
     {
         cuts::run(&mut numbers);
         axes::run(&mut numbers);
-        calls::run(&mut numbers);
+        let settled = settled::Settled::new(&mut numbers);
+        calls::run(&settled);
+        frames::run(&settled);
+        let named: Vec<String> = args().skip_while(|word| word != "--").skip(1).collect();
+        programs::run(&settled, &named, &mut numbers);
     }
     #[cfg(not(rust_text))]
     println!(
-        "left out, since the Rust text is not at hand: cuts, reductions, candidates, searches, calls"
+        "left out, since the Rust text is not at hand: cuts, reductions, candidates, searches, calls, frames, programs"
     );
+}
+
+/// So many, or one where the run is a quick one.
+fn batches(most: usize) -> usize {
+    let quick = args().nth(1).is_some_and(|word| word == "quick");
+    if quick {
+        1
+    } else {
+        most
+    }
 }
 
 fn head(what: &str, theirs: &str) {
@@ -41,7 +65,7 @@ fn head(what: &str, theirs: &str) {
 }
 
 fn line(what: &str, ours: impl FnMut() -> f64, theirs: impl FnMut() -> f64) {
-    line_of(BATCHES, what, ours, theirs);
+    line_of(batches(BATCHES), what, ours, theirs);
 }
 
 fn line_of(
