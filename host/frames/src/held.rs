@@ -15,6 +15,7 @@ pub struct Held<'a> {
     frames: &'a Frames,
     mix: Mix,
     wanted: usize,
+    sent: usize,
     compared: usize,
     different: u64,
     start: Instant,
@@ -29,6 +30,7 @@ impl<'a> Held<'a> {
             frames,
             mix: Mix::new(frames),
             wanted: count,
+            sent: 0,
             compared: 0,
             different: 0,
             start: now,
@@ -36,9 +38,22 @@ impl<'a> Held<'a> {
         }
     }
 
-    /// A frame that is sent, and its answer.
-    pub fn sent(&mut self, place: Place, frame: &Frame, wanted: &[u8]) {
-        self.mix.add(self.frames.sort_of(place.unit), frame, wanted);
+    /// Whether no more frames are to be sent.
+    pub fn all_sent(&self) -> bool {
+        self.sent == self.wanted
+    }
+
+    /// A frame and the answer that is wanted, where it can be told: then the frame is to be sent.
+    pub fn tell(
+        &mut self,
+        place: Place,
+        frame: &Frame,
+        wanted: Option<Vec<u8>>,
+    ) -> Option<Vec<u8>> {
+        let sort = self.frames.sort_of(place.unit);
+        self.mix.add(sort, frame, wanted.as_deref());
+        self.sent += usize::from(wanted.is_some());
+        wanted
     }
 
     /// The answer that came: the bytes, or the characters of a line. Shows the frame where it is not the wanted one.

@@ -18,13 +18,16 @@ pub trait Library {
 /// So many frames in bytes, and those that are calls through `collide` as well.
 pub fn run(frames: &Frames, count: usize, library: &mut impl Library) -> Verdict {
     let mut held = Held::new(frames, count);
-    let told = frames.iter().filter_map(|(place, frame)| {
-        let wanted = wanted::to_frame(frame.bytes()?)?;
-        Some((place, frame, wanted))
-    });
-    for (place, frame, wanted) in told.take(count) {
-        held.sent(place, &frame, &wanted);
-        let bytes = frame.bytes().expect("told by its bytes");
+    for (place, frame) in frames.iter() {
+        if held.all_sent() {
+            break;
+        }
+        let Some(bytes) = frame.bytes() else {
+            continue;
+        };
+        let Some(wanted) = held.tell(place, &frame, wanted::to_frame(bytes)) else {
+            continue;
+        };
         let mut room = Room::new(LONGEST_ANSWER);
         match room.ask(bytes, library) {
             Ok(answer) => held.came(place, &wanted, Came::Bytes(answer)),

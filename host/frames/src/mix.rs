@@ -13,6 +13,8 @@ const TYPES: usize = 10;
 #[derive(Default)]
 pub struct Mix {
     sorts: Vec<u64>,
+    /// Left out, since the Rust text would be needed.
+    untold: u64,
     roots: u64,
     pairs: u64,
     faults: [u64; 5],
@@ -37,9 +39,13 @@ impl Mix {
         }
     }
 
-    /// One frame of the sort at this place of the list, and the answer that is wanted.
-    pub fn add(&mut self, sort: usize, frame: &Frame, answer: &[u8]) {
+    /// One frame of the sort at this place of the list, and the answer that is wanted, where it can be told.
+    pub fn add(&mut self, sort: usize, frame: &Frame, answer: Option<&[u8]>) {
         self.sorts[sort] += 1;
+        let Some(answer) = answer else {
+            self.untold += 1;
+            return;
+        };
         match (answer[0] - 0x80, frame.bytes()) {
             (ROOT, _) => self.roots += 1,
             (FLIP, _) => self.pairs += 1,
@@ -113,6 +119,7 @@ impl Mix {
             ("6", cut, text),
             ("7, which no input gives", no_face, 0),
             ("capacity below 4", self.without_work, 1),
+            ("left out for want of the text", self.untold, 0),
         ]);
         println!("first broken rule of a refused hull");
         let rules: Vec<(String, u64, u64)> = rules.collect();

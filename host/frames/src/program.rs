@@ -26,17 +26,20 @@ pub fn run(frames: &Frames, count: usize, command: &mut Command) -> io::Result<V
 
     let mut held = Held::new(frames, count);
     let mut waiting = Waiting::new();
-    let told = frames.iter().filter_map(|(place, frame)| {
-        let wanted = wanted::to_line(&frame.line())?;
-        Some((place, frame, wanted))
-    });
-    for (number, (place, frame, wanted)) in told.take(count).enumerate() {
-        let mut line = if number == 0 { vec![] } else { vec![b'\n'] };
-        line.extend_from_slice(&frame.line());
-        if to_writer.send(line).is_err() {
+    // The end of the line before, so that the last has none.
+    let mut before: &[u8] = b"";
+    for (place, frame) in frames.iter() {
+        if held.all_sent() {
             break;
         }
-        held.sent(place, &frame, &wanted);
+        let line = frame.line();
+        let Some(wanted) = held.tell(place, &frame, wanted::to_line(&line)) else {
+            continue;
+        };
+        if to_writer.send([before, &line].concat()).is_err() {
+            break;
+        }
+        before = b"\n";
         waiting.push_back((place, wanted));
         for answer in answers.try_iter() {
             take(&mut held, &mut waiting, &answer);

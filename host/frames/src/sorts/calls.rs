@@ -3,7 +3,7 @@
 use crate::codec::call_frame;
 use crate::Frame;
 use cases::calls::caches::{self, naming, NAMING};
-use cases::calls::{Call, Given};
+use cases::calls::Given;
 use cases::pairs::{placed, Pair};
 use cases::shapes::kinds::{any_log, COMPACT};
 use cases::shapes::solids::{bipyramid, block, frustum, pyramid, Solid};
@@ -57,7 +57,7 @@ pub fn any_frame(n: &mut Numbers) -> Vec<u8> {
 #[cfg(rust_text)]
 pub fn on_pair(pair: Pair, n: &mut Numbers) -> Vec<Frame> {
     let mut frames = Vec::new();
-    let mut ask = |call: &Call| {
+    let mut ask = |call: &cases::calls::Call| {
         frames.push(Frame::Bytes(call_frame(call)));
         call.wanted()
     };
