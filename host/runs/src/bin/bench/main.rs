@@ -12,13 +12,13 @@ use std::hint::black_box;
 use std::time::Instant;
 
 #[cfg(rust_text)]
+mod answers;
+#[cfg(rust_text)]
 mod axes;
 #[cfg(rust_text)]
 mod calls;
 #[cfg(rust_text)]
 mod cuts;
-#[cfg(rust_text)]
-mod frames;
 #[cfg(rust_text)]
 mod programs;
 mod roots;
@@ -40,7 +40,7 @@ fn main() {
         axes::run(&mut numbers);
         let settled = settled::Settled::new(&mut numbers);
         calls::run(&settled);
-        frames::run(&settled);
+        answers::run(&settled);
         let named: Vec<String> = args().skip_while(|word| word != "--").skip(1).collect();
         programs::run(&settled, &named, &mut numbers);
     }

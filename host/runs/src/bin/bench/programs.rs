@@ -3,9 +3,9 @@
 
 use super::batches;
 use super::settled::{Settled, Step};
-use ::frames::codec::{call_frame, root_frame};
-use ::frames::hex;
 use cases::Numbers;
+use frames::codec::{call_frame, root_frame};
+use frames::hex;
 use std::io::{self, Read, Write};
 use std::path::Path;
 use std::process::{Command, Stdio};

@@ -3,8 +3,8 @@
 
 use super::settled::{Settled, Step, FRAMES, PAIRS};
 use super::{batches, head, line_of, timed_calls};
-use ::frames::codec::{call_frame, LONGEST_ANSWER};
-use ::frames::wanted;
+use frames::codec::{call_frame, LONGEST_ANSWER};
+use frames::wanted;
 
 /// Fewer than elsewhere, since a batch is long.
 const COLD_BATCHES: usize = 40;
