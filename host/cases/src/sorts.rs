@@ -21,7 +21,7 @@ pub mod places;
 pub type Sort = (&'static str, fn(&mut Numbers) -> Pair);
 
 /// Made anew until the transform is an accepted one.
-pub fn acceptable(make: fn(&mut Numbers) -> Pair, n: &mut Numbers) -> Pair {
+pub fn acceptable(make: impl Fn(&mut Numbers) -> Pair, n: &mut Numbers) -> Pair {
     loop {
         let pair = make(n);
         let Transform { p, q } = pair.transform;
@@ -81,7 +81,7 @@ pub const SORTS: [Sort; 13] = [
 ];
 
 /// Any of the kinds, turned or not.
-fn any_kind(n: &mut Numbers) -> Shape {
+pub fn any_kind(n: &mut Numbers) -> Shape {
     let place = n.below(COMPACT.len() + STRETCHED.len());
     let (_, solid) = COMPACT
         .into_iter()

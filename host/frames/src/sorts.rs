@@ -2,7 +2,9 @@
 //! a run can be made again. The sorts take turns.
 
 use crate::Frame;
-use cases::pairs::Pair;
+use cases::pairs::{long_rings, Pair};
+use cases::shapes::kinds::{Kind, COMPACT, STRETCHED};
+use cases::shapes::solids::Solid;
 use cases::sorts::{acceptable, SORTS};
 use cases::Numbers;
 
@@ -23,6 +25,8 @@ enum Make {
     Frames(fn(usize, &mut Numbers) -> Vec<Frame>),
     /// Calls on a pair of hulls.
     Calls(fn(&mut Numbers) -> Pair),
+    /// Calls on a hull of a kind that is laid or set on any other, or the other on it.
+    Kind(fn(&mut Numbers) -> Solid),
 }
 
 /// A name and a maker.
@@ -87,9 +91,13 @@ impl Frames {
         };
         let named = |(name, make)| sort(name, Make::Frames(make), false);
         let of_pairs = |(name, make)| sort(name, Make::Calls(make), false);
+        let of_kind = |(name, make): Kind| sort(name, Make::Kind(make), false);
         let lines = LINES.map(|(name, make)| sort(name, Make::Frames(make), true));
         let mut sorts = Vec::from(lines);
         sorts.extend(OWN.map(named));
+        sorts.extend(COMPACT.map(of_kind));
+        sorts.extend(STRETCHED.map(of_kind));
+        sorts.extend([("faces of 65 corners and more", long_rings as _)].map(of_kind));
         sorts.extend(SORTS.map(of_pairs));
         #[cfg(rust_text)]
         {
@@ -132,6 +140,10 @@ impl Frames {
                 turns.flat_map(|turn| make(turn, n)).collect()
             }
             Make::Calls(make) => calls::on_pair(acceptable(make, n), n),
+            Make::Kind(make) => {
+                let pair = acceptable(|n| calls::pair_of_kind(round, make, n), n);
+                calls::on_pair(pair, n)
+            }
         }
     }
 }

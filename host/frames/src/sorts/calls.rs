@@ -4,10 +4,11 @@ use crate::codec::call_frame;
 use crate::Frame;
 use cases::calls::caches::{self, naming, NAMING};
 use cases::calls::Given;
-use cases::pairs::{placed, Pair};
+use cases::pairs::{placed, turned_or_not, Pair};
 use cases::shapes::kinds::{any_log, COMPACT};
 use cases::shapes::solids::{bipyramid, block, frustum, pyramid, Solid};
 use cases::shapes::{Padding, Shape};
+use cases::sorts::any_kind;
 use cases::{convert, Numbers};
 use records::{HullSize, SatCache};
 
@@ -51,6 +52,17 @@ pub fn any_given(n: &mut Numbers) -> Given {
 /// The frame of such a call.
 pub fn any_frame(n: &mut Numbers) -> Vec<u8> {
     call_frame(&any_given(n).call())
+}
+
+/// A hull of this kind as A or as B in turn, laid or set on one of any kind.
+pub fn pair_of_kind(turn: usize, kind: fn(&mut Numbers) -> Solid, n: &mut Numbers) -> Pair {
+    let solid = kind(n);
+    let (own, other) = (turned_or_not(solid, n), any_kind(n));
+    if turn.is_multiple_of(2) {
+        placed(own, other, n)
+    } else {
+        placed(other, own, n)
+    }
 }
 
 /// Twelve calls: cached axes, manual searches, caches carried from call to call.
