@@ -88,13 +88,10 @@ impl Mix {
             .collect();
         let [owner, not_hex, no_kind, length, too_long] = self.faults;
         let [accepted, a, b, transform, cache, padding, cut, no_face, _] = self.statuses;
-        let rules = (1..9).map(|rule| (format!("H{rule}"), self.rules[rule], 1));
         let named = ["type 0", "1", "2", "3", "4", "5", "6", "7", "8", "9 to 255"];
         let types = |counts: &[u64; TYPES], least: [u64; TYPES]| {
-            let all = named.into_iter().zip(*counts).zip(least);
-            met(&all
-                .map(|((name, count), least)| (name, count, text * least))
-                .collect::<Vec<_>>())
+            let all: [_; TYPES] = std::array::from_fn(|i| (named[i], counts[i], text * least[i]));
+            met(&all)
         };
         let [none, one, two, three, four] = self.points;
         println!("frames by sort");
@@ -122,11 +119,17 @@ impl Mix {
             ("left out for want of the text", self.untold, 0),
         ]);
         println!("first broken rule of a refused hull");
-        let rules: Vec<(String, u64, u64)> = rules.collect();
-        good &= met(&rules
-            .iter()
-            .map(|(name, count, least)| (name.as_str(), *count, *least))
-            .collect::<Vec<_>>());
+        let [_, h1, h2, h3, h4, h5, h6, h7, h8] = self.rules;
+        good &= met(&[
+            ("H1", h1, 1),
+            ("H2", h2, 1),
+            ("H3", h3, 1),
+            ("H4", h4, 1),
+            ("H5", h5, 1),
+            ("H6", h6, 1),
+            ("H7", h7, 1),
+            ("H8", h8, 1),
+        ]);
         println!("caches of accepted calls");
         good &= types(&self.types, [1; TYPES]);
         println!("hits");

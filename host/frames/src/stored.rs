@@ -3,7 +3,7 @@
 
 use crate::codec::{self, Asked, CACHE, CALL, COUNT, HIT, NEXT_CACHE, STATUS, TYPE};
 use crate::sorts::{marked, Frames};
-use crate::{wanted, Frame};
+use crate::{wanted, Frame, LONGEST_LINE};
 use std::collections::{HashMap, HashSet};
 
 const SEED: u64 = 1;
@@ -15,8 +15,8 @@ const LONG_OF_A_SORT: usize = 3;
 const SHORT_OF_A_SORT: usize = 24;
 const SHORT: usize = 300;
 
-/// Longer calls are left to the other runs, but for document 01's own and the lines about the longest.
-const LONGEST_CALL: usize = 1800;
+/// Characters; longer calls but document 01's own are left to the other runs.
+const LONGEST_CALL: usize = 3600;
 
 /// Its places come of an arc tangent, whose last bit differs from machine to machine.
 const LEFT_OUT: &str = "near-parallel edges";
@@ -47,7 +47,7 @@ fn frames() -> Vec<Frame> {
                 LONG_OF_A_SORT
             };
             let sort: &mut usize = sorts.entry(name).or_default();
-            if short_enough(&frame, &answer)
+            if short_enough(&line, &answer)
                 && (things.insert(told(&frame, &answer)) || *sort < most)
             {
                 *sort += 1;
@@ -60,12 +60,9 @@ fn frames() -> Vec<Frame> {
     stored
 }
 
-fn short_enough(frame: &Frame, answer: &[u8]) -> bool {
+fn short_enough(line: &[u8], answer: &[u8]) -> bool {
     let call = answer[0] == CALL + 0x80;
-    !call
-        || frame
-            .bytes()
-            .is_some_and(|bytes| bytes.len() <= LONGEST_CALL)
+    line.len() <= if call { LONGEST_CALL } else { LONGEST_LINE + 1 }
 }
 
 /// What a frame meets: the kind of its answer and its fault or status; of a refused hull which rule, of any other call
