@@ -64,9 +64,10 @@ impl Room {
         }
     }
 
-    /// The library's answer; or what is wrong, where it wrote to a place that is not for an answer or says that it wrote
+    /// The library's answer; or what is wrong, where it wrote to a byte that is not of the answer or says that it wrote
     /// more than there is room for.
     pub fn ask(&mut self, frame: &[u8], library: &mut impl Library) -> Result<&[u8], &'static str> {
+        self.bytes.fill(MARK);
         let end = WATCHED + self.size;
         let length = library.answer(frame, &mut self.bytes[WATCHED..end]);
         let most = if self.size < LONGEST_ANSWER {
@@ -78,10 +79,10 @@ impl Room {
             return Err("the answer is longer than its place");
         }
         let (before, rest) = self.bytes.split_at(WATCHED);
-        let (place, after) = rest.split_at(most);
+        let (answer, after) = rest.split_at(length);
         if before.iter().chain(after).any(|&byte| byte != MARK) {
-            return Err("a byte outside the answer's place was written");
+            return Err("a byte outside the answer was written");
         }
-        Ok(&place[..length])
+        Ok(answer)
     }
 }

@@ -1,0 +1,6 @@
+pub mod Copies
+pub mod Scans
+pub mod Parts
+pub mod Holds
+pub mod Tells
+pub mod Sends
