@@ -20,7 +20,7 @@ use Rattle.links.specs.Links.{padded, NumbersFit}
 use Rattle.hull.specs.Numbers.{vertexAt, planeAt, supportAt}
 use Rattle.hull.specs.Accepted.{Accepted}
 use Rattle.hull.proofs.Support.{support-in}
-use Rattle.clip.proofs.Hulls.{below, in-list}
+use Rattle.hull.proofs.Hulls.{below, in-list}
 use Rattle.builds.specs.declared.Built.{Built}
 use Rattle.contacts.specs.Faces.{faceAOf, faceBOf}
 use Rattle.contacts.specs.EdgePairs.{edgeContactOf}

@@ -1,3 +1,1 @@
-pub mod Hulls
-pub mod Fans
 pub mod Rings

@@ -23,12 +23,12 @@ use Rattle.links.proofs.Orbits.{ring-some}
 use Rattle.links.proofs.Along.{Along, along, rest, ring-rest, no-more, goes-along, rest-more, rest-shorter}
 use Rattle.hull.specs.Numbers.{planeAt}
 use Rattle.hull.specs.Accepted.{Accepted}
-use Rattle.cut.specs.declared.Clipped.{Clipped}
+use Rattle.corners.specs.declared.Clipped.{Clipped}
 use Rattle.cut.specs.Cut.{cutOf}
-use Rattle.cut.specs.Places.{Roomy, SideBySide, cornersIn, packedOf, Laid}
-use Rattle.cut.specs.Results.{clippedOf}
-use Rattle.cut.proofs.Laying.{lays-none, lays-on, still-roomy}
-use Rattle.cut.proofs.Reading.{all-counted, all-back, packed-is}
+use Rattle.corners.specs.Places.{Roomy, SideBySide, cornersIn, packedOf, Laid}
+use Rattle.corners.specs.Results.{clippedOf}
+use Rattle.corners.proofs.Laying.{lays-none, lays-on, still-roomy}
+use Rattle.corners.proofs.Reading.{all-counted, all-back, packed-is}
 use Rattle.clip.specs.Candidates.{cornerOf, builtOf, sidePlaneOf, cutOn, goesOn, cutRound}
 
 -- the half-edges behind e, on the way round the face whose ring begins at start

@@ -18,7 +18,7 @@ use Rattle.links.specs.declared.HullSize.{HullSize}
 use Rattle.links.specs.Links.{next, origin, faceRing}
 use Rattle.hull.specs.Numbers.{vertexAt, planeAt}
 use Rattle.cut.specs.Cut.{cutOf}
-use Rattle.clip.specs.Incident.{incidentFaceOf}
+use Rattle.incident.specs.Incident.{incidentFaceOf}
 
 -- ---- the incident face as a polygon
 -- a corner of the other hull at this place, tagged with these half-edges of it

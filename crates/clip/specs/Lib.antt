@@ -1,2 +1,1 @@
-pub mod Incident
 pub mod Candidates

@@ -1,20 +1,18 @@
 // The candidates of a face contact, from clip.rs and hulls.rs: the face of hull B that lies flattest against a face of hull A, as a polygon in A's frame, cut by the
 // sides of A's face one after the other. What the candidates are, as a list, is in specs/Candidates.antt.
-pub mod incident;
-
 ghost use mathlib.Core.Path.{_≡_};
 ghost use Prim.Native.Nat.{_<_};
 ghost use Rattle.rotation.specs.Rotation.{Rows};
 ghost use Rattle.links.specs.Links.{faceRing};
 ghost use Rattle.hull.specs.Numbers.{planeAt};
 ghost use Rattle.hull.specs.Accepted.{Accepted};
-ghost use Rattle.cut.specs.Places.{Roomy, Laid};
-ghost use Rattle.cut.specs.Results.{clippedOf};
+ghost use Rattle.corners.specs.Places.{Roomy, Laid};
+ghost use Rattle.corners.specs.Results.{clippedOf};
 ghost use Rattle.clip.specs.Candidates.{cornerOf, builtOf, sidePlaneOf, cutRound, candidatesOf};
-use crate::incident::find_incident_face;
-use cut::Clipped;
-use cut::places::packed;
-use cut::places::put;
+use corners::Clipped;
+use corners::packed;
+use corners::put;
+use incident::find_incident_face;
 use links::HullSize;
 use manifold::ClipVertex;
 use manifold::pairs::FeatureOwner;

@@ -18,12 +18,13 @@ use Rattle.manifold.specs.Polygons.{cornersOf, polygonOf}
 use Rattle.manifold.proofs.Polygons.{corners-polygon, length-corners}
 use Rattle.links.specs.declared.HullSize.{HullSize}
 use Rattle.hull.specs.Numbers.{planeAt}
-use Rattle.cut.specs.declared.Clipped.{Clipped}
-use Rattle.cut.specs.Results.{clippedOf}
-use Rattle.cut.proofs.Results.{too-many, all-corners}
+use Rattle.corners.specs.declared.Clipped.{Clipped}
+use Rattle.corners.specs.Results.{clippedOf}
+use Rattle.corners.proofs.Results.{too-many, all-corners}
 use Rattle.clip.specs.Candidates.{candidatesOf}
 use Rattle.scores.specs.Images.{imageOf, leastSeparationOf, touchingOf}
-use Rattle.reduce.specs.Reduce.{pointsOf, contactOf}
+use Rattle.points.specs.Points.{contactOf}
+use Rattle.reduce.specs.Reduce.{pointsOf}
 use Rattle.builds.specs.declared.Built.{Built}
 use Rattle.builds.specs.Builds.{touchedOf, missed, refusedAt}
 use Rattle.contacts.specs.Faces.{pointsFrom, contactOnA, onFace, faceAOf}

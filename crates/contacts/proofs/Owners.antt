@@ -25,7 +25,7 @@ use Rattle.scores.specs.Images.{imageOf}
 use Rattle.reduce.specs.Reduce.{placesOf}
 use Rattle.reduce.proofs.Chosen.{chosen}
 use Rattle.cut.specs.Cut.{kept, beyond, leavingOf, enteringOf, putOutOf, cutFrom, lastOf, cutOf}
-use Rattle.clip.specs.Incident.{incidentFaceOf}
+use Rattle.incident.specs.Incident.{incidentFaceOf}
 use Rattle.clip.specs.Candidates.{taggedOf, cornerOf, builtOf, cutOn, goesOn, cutRound, candidatesOf}
 use Rattle.contacts.specs.Faces.{pointsFrom}
 

@@ -17,7 +17,7 @@ use Rattle.manifold.specs.declared.Contact.{Contact}
 use Rattle.links.specs.declared.HullSize.{HullSize}
 use Rattle.hull.specs.Numbers.{planeAt}
 use Rattle.scores.specs.Images.{imageOf, leastSeparationOf, touchingOf}
-use Rattle.reduce.specs.Reduce.{pointOf, normalOf, contactOf}
+use Rattle.points.specs.Points.{pointOf, normalOf, contactOf}
 use Rattle.reduce.proofs.Chosen.{chosen}
 use Rattle.clip.specs.Candidates.{candidatesOf}
 use Rattle.builds.specs.declared.Built.{Built}

@@ -17,7 +17,7 @@ use Rattle.manifold.specs.Pairs.{pairOf}
 use Rattle.links.specs.declared.HullSize.{HullSize}
 use Rattle.links.specs.Links.{twin, origin}
 use Rattle.hull.specs.Numbers.{vertexAt}
-use Rattle.reduce.specs.Reduce.{contactOf}
+use Rattle.points.specs.Points.{contactOf}
 use Rattle.builds.specs.declared.Built.{Built}
 use Rattle.builds.specs.Builds.{touchedOf, missed}
 

@@ -17,7 +17,8 @@ use Rattle.manifold.specs.Pairs.{flipOf}
 use Rattle.links.specs.declared.HullSize.{HullSize}
 use Rattle.hull.specs.Numbers.{planeAt}
 use Rattle.scores.specs.Images.{imageOf, leastSeparationOf, touchingOf}
-use Rattle.reduce.specs.Reduce.{pointsOf, contactOf}
+use Rattle.points.specs.Points.{contactOf}
+use Rattle.reduce.specs.Reduce.{pointsOf}
 use Rattle.clip.specs.Candidates.{candidatesOf}
 use Rattle.builds.specs.declared.Built.{Built}
 use Rattle.builds.specs.Builds.{touchedOf, missed, refusedAt}

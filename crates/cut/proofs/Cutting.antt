@@ -14,9 +14,9 @@ use Rattle.vector.specs.Shape.{planeSeparationOf}
 use Rattle.manifold.specs.declared.ClipVertex.{ClipVertex}
 use Rattle.manifold.specs.Records.{zeroVertex, pastVertex}
 use Rattle.cut.specs.Cut.{kept, beyond, leavingOf, enteringOf, putOutOf, cutFrom, lastOf, cutOf}
-use Rattle.cut.specs.Places.{Roomy, SideBySide, cornerIn, cornersIn, Laid}
-use Rattle.cut.proofs.Laying.{lays-none, lays-on, still-roomy, beside-stays}
-use Rattle.cut.proofs.Reading.{length-in, corner-in}
+use Rattle.corners.specs.Places.{Roomy, SideBySide, cornerIn, cornersIn, Laid}
+use Rattle.corners.proofs.Laying.{lays-none, lays-on, still-roomy, beside-stays}
+use Rattle.corners.proofs.Reading.{length-in, corner-in}
 
 -- ---- what an edge puts out, by the arms of the definition
 module _ (n : List Float) (t : List ℕ) (p k : ℕ) (edge : ℕ) (reference : Plane) (v1 : ClipVertex) (d1 : Float) (v2 : ClipVertex) (d2 : Float) where

@@ -1,4 +1,1 @@
-pub mod Laying
-pub mod Reading
 pub mod Cutting
-pub mod Results

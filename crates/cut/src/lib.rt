@@ -1,28 +1,18 @@
 // One cut of a polygon by a plane, from clip.rs: what lies on or below the plane stays, and new corners stand where the outline meets it.
 // What each edge of the polygon puts out, and the whole cut as a list, is in specs/Cut.antt.
-pub mod places;
-
 ghost use mathlib.Core.Path.{_≡_};
 ghost use Prim.Native.Nat.{_≤_, _<_};
 ghost use Rattle.cut.specs.Cut.{meetingOf, leavingOf, enteringOf, putOutOf, cutOf};
-ghost use Rattle.cut.specs.Places.{Roomy, SideBySide, cornersIn, Laid};
-use crate::places::corner_at;
-use crate::places::put;
+ghost use Rattle.corners.specs.Places.{Roomy, SideBySide, cornersIn, Laid};
+use corners::corner_at;
+use corners::put;
 use manifold::ClipVertex;
 use manifold::FeaturePair;
-use manifold::Polygon;
 use vector::Plane;
 use vector::Vec3;
 use vector::arithmetic::mul_add;
 use vector::arithmetic::sub;
 use vector::shape::plane_separation;
-
-// What a cut leaves: the first 64 corners, and whether there was a 65th, which is refusal 6.
-#[repr(C)]
-pub struct Clipped {
-    pub polygon: Polygon,
-    pub full: bool,
-}
 
 // Where the edge from v1 to v2, at the distances d1 and d2, meets the plane.
 fn meeting(v1: ClipVertex, d1: f32, v2: ClipVertex, d2: f32) -> Vec3

@@ -3,3 +3,4 @@ pub mod Transforms
 pub mod Answer
 pub mod Support
 pub mod Accepted
+pub mod Hulls

@@ -82,7 +82,7 @@ pub fn support_vertex(numbers: &[f32], size: HullSize, d: Vec3) -> usize
 pub fn first_broken_rule(numbers: &[f32], links: &[u8], size: HullSize) -> u8
     ensures { λ r. ⌜ r ≡ brokenRule size (now (numbers .entry)) (now (links .entry)) ⌝ }
 {
-    if !rules::sizes_right(numbers, links, size) {
+    if !sizes::sizes_right(numbers, links, size) {
         return 1;
     }
     let rule = rules::broken_link_rule(links, size);

@@ -8,7 +8,8 @@ use native.Mathlib.Omega.{arith}
 use Rattle.vector.specs.declared.Vec3.{Vec3}
 use Rattle.manifold.specs.declared.ClipVertex.{ClipVertex}
 use Rattle.manifold.specs.declared.Contact.{Contact}
-use Rattle.reduce.specs.Reduce.{contactOf, pointsOf}
+use Rattle.points.specs.Points.{contactOf}
+use Rattle.reduce.specs.Reduce.{pointsOf}
 use Rattle.reduce.proofs.Chosen.{chosen}
 
 -- i rounds are done

@@ -5,13 +5,14 @@ ghost use Prim.Native.Nat.{_*_, _≤_, _<_};
 ghost use Rattle.manifold.specs.Polygons.{cornersOf, polygonOf};
 ghost use Rattle.hull.specs.Accepted.{Accepted};
 ghost use Rattle.cut.specs.Cut.{cutOf};
-ghost use Rattle.cut.specs.Places.{Roomy, SideBySide, cornersIn, Laid};
-ghost use Rattle.cut.specs.Results.{clippedOf};
+ghost use Rattle.corners.specs.Places.{Roomy, SideBySide, cornersIn, Laid};
+ghost use Rattle.corners.specs.Results.{clippedOf};
 ghost use Rattle.scores.specs.Images.{imageOf, leastSeparationOf, touchingOf};
-ghost use Rattle.reduce.specs.Reduce.{contactOf, pointsOf};
-ghost use Rattle.clip.specs.Incident.{incidentFaceOf};
+ghost use Rattle.points.specs.Points.{contactOf};
+ghost use Rattle.reduce.specs.Reduce.{pointsOf};
+ghost use Rattle.incident.specs.Incident.{incidentFaceOf};
 ghost use Rattle.clip.specs.Candidates.{builtOf, candidatesOf};
-use cut::Clipped;
+use corners::Clipped;
 use links::HullSize;
 use manifold::Contact;
 use manifold::Polygon;
@@ -103,7 +104,7 @@ pub extern "C" fn probe_find_incident_face(
     requires { ⌜ Accepted size (now numbers) (now links) × (vertex < size .vertices) ⌝ }
     ensures { λ r. ⌜ r ≡ incidentFaceOf size (now (numbers .entry)) (now (links .entry)) normal vertex ⌝ }
 {
-    clip::incident::find_incident_face(numbers, links, size, normal, vertex)
+    incident::find_incident_face(numbers, links, size, normal, vertex)
 }
 
 #[no_mangle]

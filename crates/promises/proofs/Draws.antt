@@ -25,7 +25,8 @@ use Rattle.links.specs.declared.HullSize.{HullSize}
 use Rattle.hull.specs.Numbers.{planeAt}
 use Rattle.clip.specs.Candidates.{candidatesOf}
 use Rattle.scores.specs.Images.{imageOf, leastSeparationOf, touchingOf}
-use Rattle.reduce.specs.Reduce.{pointsOf, placesOf, numbered, normalOf, contactOf}
+use Rattle.points.specs.Points.{normalOf, contactOf}
+use Rattle.reduce.specs.Reduce.{pointsOf, placesOf, numbered}
 use Rattle.reduce.specs.Chosen.{Chosen}
 use Rattle.reduce.proofs.Chosen.{chosen}
 use Rattle.axis.specs.declared.Axis.{Axis}

@@ -12,7 +12,8 @@ use Rattle.manifold.specs.declared.Contact.{Contact}
 use Rattle.manifold.specs.declared.Outcome.{Outcome}
 use Rattle.manifold.specs.Records.{pastVertex}
 use Rattle.links.specs.declared.HullSize.{HullSize}
-use Rattle.reduce.specs.Reduce.{numbered, contactOf}
+use Rattle.points.specs.Points.{contactOf}
+use Rattle.reduce.specs.Reduce.{numbered}
 use Rattle.collide.specs.Call.{collideOf}
 use Rattle.contactlib.specs.Lent.{Called}
 use Rattle.promises.specs.Sources.{Drawn}

@@ -12,7 +12,7 @@ use Rattle.links.specs.declared.HullSize.{HullSize}
 use Rattle.hull.specs.Numbers.{planeAt}
 use Rattle.clip.specs.Candidates.{candidatesOf}
 use Rattle.scores.specs.Images.{imageOf}
-use Rattle.reduce.specs.Reduce.{contactOf}
+use Rattle.points.specs.Points.{contactOf}
 use Rattle.reduce.specs.Chosen.{Chosen}
 use Rattle.contacts.specs.Faces.{carriedOf}
 use Rattle.contacts.specs.EdgePairs.{edgePoint, nearestOf}

@@ -96,15 +96,3 @@ numbered (suc n) = numbered n ++ (n ∷ [])
 -- which candidate each point is, by its place in the list before any pick: the same picks, of the places themselves
 unfoldable pub placesOf : Vec3 → Vec3 → List ClipVertex → List ℕ
 placesOf direction normal l = kept 0 (firstPicks direction normal l) (numbered (length l))
-
--- ---- the contact with these points
-unfoldable pub pointOf : ClipVertex → Point
-pointOf v = record { position = v .position; separation = v .separation; pair = v .pair }
-
--- the normal of a contact is zero where there are no points
-unfoldable pub normalOf : Vec3 → List ClipVertex → Vec3
-normalOf normal [] = zeroVec
-normalOf normal (v ∷ vs) = normal
-
-unfoldable pub contactOf : Vec3 → List ClipVertex → Contact
-contactOf normal l = record { points = map pointOf l ++ replicate (4 - length l) zeroPoint; normal = normalOf normal l; count = length l }

@@ -7,17 +7,20 @@ ghost use mathlib.Core.Path.{_≡_};
 ghost use Prim.Native.Nat.{_≤_, _<_};
 ghost use Rattle.manifold.specs.Records.{pastVertex};
 ghost use Rattle.manifold.specs.Polygons.{cornersOf};
-ghost use Rattle.reduce.specs.Reduce.{pointOf, contactOf, taken, firstPicks, pointsOf};
+ghost use Rattle.points.specs.Points.{contactOf};
+ghost use Rattle.reduce.specs.Reduce.{taken, firstPicks, pointsOf};
 use crate::places::first_turn;
 use crate::places::standing1;
 use crate::places::standing2;
 use crate::places::standing3;
-use manifold::ClipVertex;
 use manifold::Contact;
-use manifold::Point;
 use manifold::Polygon;
 use manifold::records::empty_contact;
-use manifold::records::zero_point;
+use points::all_points;
+use points::four_points;
+use points::one_point;
+use points::three_points;
+use points::two_points;
 use scores::Best;
 use scores::as_good;
 use scores::better;
@@ -31,102 +34,6 @@ use vector::scalar::abs_float;
 
 // What a second pick must reach: the square of the speculative distance.
 const TOLERANCE: f32 = 0.02 * 0.02;
-
-fn point_of(v: ClipVertex) -> Point
-    ensures { λ r. ⌜ r ≡ pointOf v ⌝ }
-{
-    let position = v.position;
-    let pair = v.pair;
-    Point {
-        position,
-        separation: v.separation,
-        pair,
-    }
-}
-
-// The contact of one point.
-pub fn one_point(v1: ClipVertex, normal: Vec3) -> Contact
-    ensures { λ r. ⌜ r ≡ contactOf normal (v1 ∷ []) ⌝ }
-{
-    let zero = zero_point();
-    let p1 = point_of(v1);
-    Contact {
-        points: [p1, zero, zero, zero],
-        normal,
-        count: 1,
-    }
-}
-
-fn two_points(v1: ClipVertex, v2: ClipVertex, normal: Vec3) -> Contact
-    ensures { λ r. ⌜ r ≡ contactOf normal (v1 ∷ v2 ∷ []) ⌝ }
-{
-    let zero = zero_point();
-    let p1 = point_of(v1);
-    let p2 = point_of(v2);
-    Contact {
-        points: [p1, p2, zero, zero],
-        normal,
-        count: 2,
-    }
-}
-
-fn three_points(v1: ClipVertex, v2: ClipVertex, v3: ClipVertex, normal: Vec3) -> Contact
-    ensures { λ r. ⌜ r ≡ contactOf normal (v1 ∷ v2 ∷ v3 ∷ []) ⌝ }
-{
-    let zero = zero_point();
-    let p1 = point_of(v1);
-    let p2 = point_of(v2);
-    let p3 = point_of(v3);
-    Contact {
-        points: [p1, p2, p3, zero],
-        normal,
-        count: 3,
-    }
-}
-
-fn four_points(
-    v1: ClipVertex,
-    v2: ClipVertex,
-    v3: ClipVertex,
-    v4: ClipVertex,
-    normal: Vec3,
-) -> Contact
-    ensures { λ r. ⌜ r ≡ contactOf normal (v1 ∷ v2 ∷ v3 ∷ v4 ∷ []) ⌝ }
-{
-    let p1 = point_of(v1);
-    let p2 = point_of(v2);
-    let p3 = point_of(v3);
-    let p4 = point_of(v4);
-    Contact {
-        points: [p1, p2, p3, p4],
-        normal,
-        count: 4,
-    }
-}
-
-// All of four or fewer, in order.
-fn all_points(points: Polygon, normal: Vec3) -> Contact
-    requires { ⌜ points .count ≤ 4 ⌝ }
-    ensures { λ r. ⌜ r ≡ contactOf normal (cornersOf points) ⌝ }
-{
-    let n = points.count;
-    if n == 0 {
-        return empty_contact();
-    }
-    let v1 = points.vertices[0];
-    if n == 1 {
-        return one_point(v1, normal);
-    }
-    let v2 = points.vertices[1];
-    if n == 2 {
-        return two_points(v1, v2, normal);
-    }
-    let v3 = points.vertices[2];
-    if n == 3 {
-        return three_points(v1, v2, v3, normal);
-    }
-    four_points(v1, v2, v3, points.vertices[3], normal)
-}
 
 // Up to four picks of more than four images: one function, so that the polygon is copied once.
 fn picked(points: Polygon, normal: Vec3, direction: Vec3) -> Contact

@@ -1,45 +1,14 @@
-// Which of the rules H1 to H7 a hull breaks first. Two tours accept a hull: once along every ring and once along every fan. Only where one of them
+// Which of the rules H2 to H7 a hull breaks first. Two tours accept a hull: once along every ring and once along every fan. Only where one of them
 // fails are H2 to H5 gone through to name the rule; if none of these is broken, it is the rule of that tour.
 pub mod tests;
 
 ghost use mathlib.Core.Path.{_≡_};
 ghost use Rattle.links.specs.Links.{LinksFit};
-ghost use Rattle.links.specs.Rules.{h1, brokenLinks};
+ghost use Rattle.links.specs.Rules.{brokenLinks};
 use crate::tests::broken_before_walks;
 use links::HullSize;
 use tours::fans_toured;
 use tours::rings_toured;
-
-// H1.
-pub fn sizes_right(numbers: &[f32], links: &[u8], size: HullSize) -> bool
-    ensures { λ r. ⌜ r ≡ h1 size (now (numbers .entry)) (now (links .entry)) ⌝ }
-{
-    if size.vertices < 4 {
-        return false;
-    }
-    if 128 < size.vertices {
-        return false;
-    }
-    if size.half_edges % 2 != 0 {
-        return false;
-    }
-    if size.half_edges < 12 {
-        return false;
-    }
-    if 256 < size.half_edges {
-        return false;
-    }
-    if size.faces < 4 {
-        return false;
-    }
-    if 128 < size.faces {
-        return false;
-    }
-    if links.len() != size.vertices + 4 * size.half_edges + size.faces {
-        return false;
-    }
-    numbers.len() == 6 + 3 * ((size.vertices + 3) / 4 * 4) + 4 * size.faces
-}
 
 // The first broken rule of H2 to H7, 0 if none.
 pub fn broken_link_rule(links: &[u8], size: HullSize) -> u8

@@ -3,7 +3,7 @@ use mathlib.Core.Path.{sym, _∙_}
 use native.Mathlib.Omega.{arith}
 use lib.ListN.{length}
 use borrow.Author.Needs.{needs}
-use Rattle.cut.proofs.Laying.{still-roomy}
+use Rattle.corners.proofs.Laying.{still-roomy}
 use Rattle.clip.specs.Candidates.{cornerOf}
 use Rattle.clip.proofs.Rings.{leftOf, Building, build-begins, build-roomy, build-goes, build-shorter, build-back, build-full, built-is}
 use Rattle.clip.proofs.build_polygon.Statement.{statement}

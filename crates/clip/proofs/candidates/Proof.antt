@@ -1,7 +1,7 @@
 -- The incident face is in range.
 use Rattle.clip.specs.Candidates.{candidatesOf}
-use Rattle.clip.proofs.Hulls.{below}
-use Rattle.clip.proofs.Fans.{incident-in}
+use Rattle.hull.proofs.Hulls.{below}
+use Rattle.incident.proofs.Fans.{incident-in}
 use borrow.Author.Needs.{needs}
 use Rattle.clip.proofs.candidates.Statement.{statement}
 use Rattle.clip.proofs.candidates.Tie as tie

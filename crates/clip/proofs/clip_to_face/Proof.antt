@@ -6,9 +6,9 @@ use lib.ListN.{length, replicate, length-replicate}
 use borrow.Author.Needs.{needs}
 use Rattle.vector.specs.Rounded.{float}
 use Rattle.links.specs.Links.{faceRing}
-use Rattle.cut.specs.Places.{Roomy, cornersIn}
+use Rattle.corners.specs.Places.{Roomy, cornersIn}
 use Rattle.clip.specs.Candidates.{cutRound}
-use Rattle.clip.proofs.Hulls.{byte}
+use Rattle.hull.proofs.Hulls.{byte}
 use Rattle.clip.proofs.Rings.{leftOf, Round, half-most, halves, begun, left-of-built, round-begins, cut-roomy, round-full, round-few, round-back, round-goes, round-shorter}
 use Rattle.clip.proofs.clip_to_face.Statement.{statement}
 use Rattle.clip.proofs.clip_to_face.Tie as tie

@@ -1,7 +1,7 @@
 -- The origin of the next half-edge, carried over and tagged.
 use native.Mathlib.Omega.{arith}
 use Rattle.clip.specs.Candidates.{taggedOf, cornerOf}
-use Rattle.clip.proofs.Hulls.{byte, at-next, at-origin}
+use Rattle.hull.proofs.Hulls.{byte, at-next, at-origin}
 use borrow.Author.Needs.{needs}
 use Rattle.clip.proofs.corner.Statement.{statement}
 use Rattle.clip.proofs.corner.Tie as tie

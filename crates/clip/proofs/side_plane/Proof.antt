@@ -1,6 +1,6 @@
 -- From the origin of the half-edge to that of the next.
 use Rattle.clip.specs.Candidates.{sidePlaneOf}
-use Rattle.clip.proofs.Hulls.{at-next, at-origin}
+use Rattle.hull.proofs.Hulls.{at-next, at-origin}
 use borrow.Author.Needs.{needs}
 use Rattle.clip.proofs.side_plane.Statement.{statement}
 use Rattle.clip.proofs.side_plane.Tie as tie

@@ -17,7 +17,8 @@ use Rattle.scores.specs.declared.Triangle.{Triangle}
 use Rattle.scores.specs.Images.{largest}
 use Rattle.scores.specs.Scores.{betterOf, asGoodOf, firstTurn, signedAreaOf, triangleOf}
 use Rattle.scores.proofs.Over.{over, start-over}
-use Rattle.reduce.specs.Reduce.{tolerance, standing, taken, firstBest, secondBest, thirdBest, fourthBest, firstPicks, secondPicks, thirdPicks, fourthPicks, normalOf, contactOf}
+use Rattle.points.specs.Points.{normalOf, contactOf}
+use Rattle.reduce.specs.Reduce.{tolerance, standing, taken, firstBest, secondBest, thirdBest, fourthBest, firstPicks, secondPicks, thirdPicks, fourthPicks}
 use Rattle.reduce.proofs.Standing.{left, stands, stands-third, place-low, read-left, length-left-of}
 use Rattle.reduce.proofs.Answers.{nothing, secondTurn, thirdTurn, fourthTurn, search-turn, search-end, first-low, second-low, third-low, fourth-low, folded}
 use Rattle.reduce.proofs.Picks.{no-first, a-first, no-second, a-second, no-third, a-third, no-fourth, a-fourth}

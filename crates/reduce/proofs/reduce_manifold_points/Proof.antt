@@ -5,7 +5,7 @@ use native.Mathlib.Omega.{arith}
 use lib.ListN.{length, length-map}
 use Rattle.manifold.specs.Polygons.{cornersOf}
 use Rattle.manifold.proofs.Polygons.{length-corners}
-use Rattle.reduce.specs.Reduce.{contactOf}
+use Rattle.points.specs.Points.{contactOf}
 use Rattle.reduce.proofs.Picks.{all-kept, picks-kept}
 use Rattle.reduce.proofs.reduce_manifold_points.Statement.{statement}
 use Rattle.reduce.proofs.reduce_manifold_points.Tie as tie

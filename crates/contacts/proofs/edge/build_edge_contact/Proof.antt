@@ -1,5 +1,5 @@
 -- `build_edge_contact`: the ends of both edges are vertices, and the calls are the definition, one after the other.
-use Rattle.clip.proofs.Hulls.{at-twin, at-origin}
+use Rattle.hull.proofs.Hulls.{at-twin, at-origin}
 use Rattle.contacts.specs.EdgePairs.{nearestOf, edgeContactOf}
 use borrow.Author.Needs.{needs}
 use Rattle.contacts.proofs.edge.build_edge_contact.Statement.{statement}

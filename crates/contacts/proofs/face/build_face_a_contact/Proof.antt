@@ -1,7 +1,7 @@
 -- `build_face_a_contact`: a vertex that B does not have, a 65th corner, or the contact of all candidates.
 use mathlib.Core.Path.{_≡_, _∙_}
 use mathlib.Core.Bool.{true, false}
-use Rattle.cut.proofs.Results.{counted-most}
+use Rattle.corners.proofs.Results.{counted-most}
 use Rattle.contacts.proofs.Cases.{past-vertices, cut-full, cut-whole}
 use borrow.Author.Needs.{needs}
 use Rattle.contacts.proofs.face.build_face_a_contact.Statement.{statement}

@@ -4,7 +4,8 @@ use mathlib.Core.Path.{ap}
 use native.Mathlib.Omega.{arith}
 use Rattle.manifold.specs.declared.Contact.{Contact}
 use Rattle.manifold.specs.Polygons.{cornersOf}
-use Rattle.reduce.specs.Reduce.{contactOf, pointsOf}
+use Rattle.points.specs.Points.{contactOf}
+use Rattle.reduce.specs.Reduce.{pointsOf}
 use Rattle.probes.proofs.Rounds.{Summed, none-summed, one-more, all-summed, four-most}
 use borrow.Author.Needs.{needs}
 use Rattle.probes.proofs.cuts.probe_reduce_rounds.Statement.{statement}
