@@ -1,6 +1,1 @@
-pub mod Copies
-pub mod Scans
-pub mod Parts
-pub mod Holds
-pub mod Tells
 pub mod Sends

@@ -1,3 +1,1 @@
-pub mod Told
-pub mod Held
-pub mod Copied
+pub mod Goes

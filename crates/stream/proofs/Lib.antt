@@ -1,0 +1,5 @@
+pub mod Copies
+pub mod Scans
+pub mod Parts
+pub mod Holds
+pub mod Tells

@@ -1,0 +1,3 @@
+pub mod Told
+pub mod Held
+pub mod Copied

@@ -1,0 +1,220 @@
+// The lines of an input that comes in parts, cut anywhere, and the answer to each, told as soon as it has ended: specs/Told.antt says what is told, specs/Held.antt how the
+// characters of an unfinished line are held. Nothing here reads or writes.
+//
+// Lines are found by a scan of the part. One that lies whole in it is answered from there; only one that began in an earlier part is copied together first.
+ghost use mathlib.Core.Bool.{true, false};
+ghost use mathlib.Core.List.{_++_};
+ghost use mathlib.Core.Path.{_≡_};
+ghost use Prim.Native.Nat.{_+_, _≤_, _<_};
+ghost use lib.ListN.{length, take, set};
+ghost use Rattle.frame.specs.Answers.{Answers};
+ghost use Rattle.frame.specs.Frames.{faultOf};
+ghost use Rattle.frame.specs.Lines.{lineAnswer};
+ghost use Rattle.hex.specs.Hex.{hexOf};
+ghost use Rattle.stream.specs.Copied.{Copied};
+ghost use Rattle.stream.specs.Held.{Ready, nothing, Grows, Puts, Tells};
+ghost use Rattle.stream.specs.Told.{lineTold, told, toldLast, toEnd};
+use encode::put_byte;
+use frame::lines::line_answer;
+
+// The most characters that are kept of a line.
+const MOST: usize = 20000;
+
+const LINE_END: u8 = 10;
+
+// The longest answer, and its line end.
+const LONGEST: usize = 207;
+
+// What is held of a line whose end has not come: how many characters, and whether there were more than are kept.
+pub struct Pending {
+    pub len: usize,
+    pub over: bool,
+}
+
+// How many characters were told, what is held behind them, and how many places the answers take.
+pub struct Part {
+    pub taken: usize,
+    pub held: Pending,
+    pub count: usize,
+}
+
+// The place of the first line end, or of the end.
+fn line_end(rest: &[u8]) -> usize
+    ensures { λ r. ⌜ r ≡ toEnd (now (rest .entry)) ⌝ }
+{
+    let mut i = 0;
+    while i < rest.len() {
+        if rest[i] == LINE_END {
+            return i;
+        }
+        i += 1;
+    }
+    i
+}
+
+fn copy(part: &[u8], line: &mut [u8], at: usize)
+    requires { ⌜ at + length (now part) ≤ length (now line) ⌝ }
+    ensures { λ _. ⌜ Copied (now (part .entry)) (now (line .entry)) at (length (now (part .entry))) (now (line .exit)) ⌝ }
+{
+    let mut i = 0;
+    while i < part.len() {
+        line[at + i] = part[i];
+        i += 1;
+    }
+}
+
+fn is_nothing(p: Pending) -> bool
+    ensures { λ r. ⌜ r ≡ nothing p ⌝ }
+{
+    if p.over {
+        return false;
+    }
+    p.len == 0
+}
+
+// More characters of the line that is held.
+fn hold(part: &[u8], line: &mut [u8], p: Pending) -> Pending
+    requires { ⌜ Ready (now line) p ⌝ }
+    ensures { λ r. ⌜ Grows (now (part .entry)) (now (line .entry)) p (now (line .exit)) r ⌝ }
+{
+    if p.over {
+        return p;
+    }
+    let len = p.len;
+    if MOST - len < part.len() {
+        return Pending {
+            len: len,
+            over: true,
+        };
+    }
+    copy(part, line, len);
+    Pending {
+        len: len + part.len(),
+        over: false,
+    }
+}
+
+// ff24
+fn put_long(out: &mut [u8]) -> usize
+    requires { ⌜ 206 ≤ length (now out) ⌝ }
+    ensures { λ r. ⌜ Answers (hexOf (faultOf 0x24)) (now (out .entry)) r (now (out .exit)) ⌝ }
+{
+    put_byte(out, 0, b'f');
+    put_byte(out, 1, b'f');
+    put_byte(out, 2, b'2');
+    put_byte(out, 3, b'4');
+    4
+}
+
+// The answer to the characters that are held.
+fn answer_held(line: &[u8], p: Pending, out: &mut [u8]) -> usize
+    requires { ⌜ Ready (now line) p × (206 ≤ length (now out)) ⌝ }
+    ensures { λ r. ⌜ (r ≤ 206) × Puts lineAnswer (now (line .entry)) p (now (out .entry)) r (now (out .exit)) ⌝ }
+{
+    if p.over {
+        return put_long(out);
+    }
+    let len = p.len;
+    line_answer(&line[..len], out)
+}
+
+// The answer to the line that is held and ends with these characters.
+fn answer_ended(part: &[u8], line: &mut [u8], p: Pending, out: &mut [u8]) -> usize
+    requires { ⌜ Ready (now line) p × (206 ≤ length (now out)) ⌝ }
+    ensures { λ r. ⌜ (r ≤ 206) × Puts (λ xs. lineAnswer (xs ++ now (part .entry))) (now (line .entry)) p (now (out .entry)) r (now (out .exit)) ⌝ }
+{
+    if is_nothing(p) {
+        return line_answer(part, out);
+    }
+    let q = hold(part, line, p);
+    answer_held(line, q, out)
+}
+
+// The line end behind an answer of n characters.
+fn end_line(out: &mut [u8], n: usize) -> usize
+    requires { ⌜ (n ≤ 206) × (207 ≤ length (now out)) ⌝ }
+    ensures { λ r. ⌜ (r ≡ n + 1) × (now (out .exit) ≡ set (now (out .entry)) n 10) ⌝ }
+{
+    out[n] = LINE_END;
+    n + 1
+}
+
+// What is told of the line that is held and ends with these characters.
+fn tell_line(part: &[u8], line: &mut [u8], p: Pending, out: &mut [u8]) -> usize
+    requires { ⌜ Ready (now line) p × (207 ≤ length (now out)) ⌝ }
+    ensures { λ r. ⌜ (r ≤ 207) × Puts (λ xs. lineTold (xs ++ now (part .entry))) (now (line .entry)) p (now (out .entry)) r (now (out .exit)) ⌝ }
+{
+    let n = answer_ended(part, line, p, out);
+    end_line(out, n)
+}
+
+// What is told at the end of the input.
+pub fn tell_last(line: &[u8], p: Pending, out: &mut [u8]) -> usize
+    requires { ⌜ Ready (now line) p × (207 ≤ length (now out)) ⌝ }
+    ensures { λ r. ⌜ (r ≤ 207) × Puts toldLast (now (line .entry)) p (now (out .entry)) r (now (out .exit)) ⌝ }
+{
+    if is_nothing(p) {
+        return 0;
+    }
+    let n = answer_held(line, p, out);
+    end_line(out, n)
+}
+
+// The next line of what was read, or what there is of it.
+fn tell_next(rest: &[u8], line: &mut [u8], p: Pending, out: &mut [u8]) -> Part
+    requires { ⌜ (0 < length (now rest)) × Ready (now line) p × (207 ≤ length (now out)) ⌝ }
+    ensures { λ r. ⌜ (0 < r .taken) × (r .count ≤ 207) × Tells (now (rest .entry)) (now (line .entry)) p (now (out .entry)) r (now (line .exit)) (now (out .exit)) ⌝ }
+{
+    let n = line_end(rest);
+    if n < rest.len() {
+        let count = tell_line(&rest[..n], line, p, out);
+        return Part {
+            taken: n + 1,
+            held: Pending {
+                len: 0,
+                over: false,
+            },
+            count: count,
+        };
+    }
+    let q = hold(rest, line, p);
+    Part {
+        taken: n,
+        held: q,
+        count: 0,
+    }
+}
+
+// Whether there is more to tell, and room for the longest answer.
+fn goes_on(i: usize, length: usize, n: usize, room: usize) -> bool
+    requires { ⌜ n ≤ room ⌝ }
+    ensures { λ r. ⌜ (r ≡ true → (i < length) × (n + 207 ≤ room)) × (r ≡ false → i < length → room < n + 207) ⌝ }
+{
+    if i < length {
+        return LONGEST <= room - n;
+    }
+    false
+}
+
+// What was read, to its end or until the next answer may find too little room: the answers stand in `out` from the first place on, in order.
+pub fn tell_part(chunk: &[u8], line: &mut [u8], p: Pending, out: &mut [u8]) -> Part
+    requires { ⌜ (0 < length (now chunk)) × Ready (now line) p × (207 ≤ length (now out)) ⌝ }
+    ensures { λ r. ⌜ (0 < r .taken) × (r .count ≤ length (now (out .entry))) × (r .taken < length (now (chunk .entry)) → length (now (out .entry)) < r .count + 207)
+        × Tells (now (chunk .entry)) (now (line .entry)) p (now (out .entry)) r (now (line .exit)) (now (out .exit)) ⌝ }
+{
+    let mut i = 0;
+    let mut q = p;
+    let mut n = 0;
+    while goes_on(i, chunk.len(), n, out.len()) {
+        let t = tell_next(&chunk[i..], line, q, &mut out[n..]);
+        i += t.taken;
+        let held = t.held;
+        q = held;
+        n += t.count;
+    }
+    Part {
+        taken: i,
+        held: q,
+        count: n,
+    }
+}
