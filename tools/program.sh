@@ -16,3 +16,8 @@ proved_program() {
     program=("$tools/bin/qemu-x86_64" "$tools/lib/ld-linux-x86-64.so.2" --library-path "$tools/lib" "$1")
     [ -x "${program[0]}" ] || { echo "the toolchain has no emulator for $(uname -m): ${program[0]}"; return 1; }
 }
+
+# frames_of FILE: the frames of a file with comments; lines that begin with # and empty ones are not sent.
+frames_of() {
+    LC_ALL=C grep -av -e '^#' -e '^[[:space:]]*$' "$1"
+}
