@@ -4,7 +4,7 @@ ghost use mathlib.Core.Bool.{true, false};
 ghost use mathlib.Core.Path.{_≡_};
 ghost use Prim.Native.Nat.{_-_, _≤_, _<_};
 ghost use lib.ListN.{length, take};
-ghost use Rattle.stream.specs.Held.{Ready};
+ghost use Rattle.stream.specs.Held.{Ready, nothing};
 ghost use Rattle.contact.specs.Goes.{Goes};
 use stream::Pending;
 use stream::tell_last;
@@ -63,7 +63,8 @@ pub struct Turn {
 // All that was read.
 fn send_all(chunk: &[u8], line: &mut [u8], p: Pending, out: &mut [u8]) -> Turn
     requires { ⌜ Ready (now line) p × (207 ≤ length (now out)) ⌝ }
-    ensures { λ r. ⌜ Ready (now (line .exit)) (r .held) × (r .more ≡ true → Goes (now (chunk .entry)) (now (line .entry)) p (now (line .exit)) (r .held)) ⌝ }
+    ensures { λ r. ⌜ Ready (now (line .exit)) (r .held) × (r .more ≡ true → Goes (now (chunk .entry)) (now (line .entry)) p (now (line .exit)) (r .held))
+        × (r .more ≡ false → nothing (r .held) ≡ true) ⌝ }
 {
     let mut q = p;
     let mut ok = true;

@@ -13,21 +13,32 @@ use Rattle.links.proofs.Tests.{cases, and-left, and-right, and-false-left, and-
 use Rattle.hex.specs.Hex.{hexDigit, valueOf, digitOf, characterAt, hexAt, hexLine}
 
 module _ (c : ℕ) where
-  pub below-numerals : c < 48 → false ≡ hexDigit c
+  below-numerals : c < 48 → false ≡ hexDigit c
   unfolding hexDigit _&_ _or_
   below-numerals h = rw (lt-leb 48 c h, lt-leb 97 c (omega arith))
 
-  pub in-numerals : 48 ≤ c → c ≤ 57 → true ≡ hexDigit c
+  in-numerals : 48 ≤ c → c ≤ 57 → true ≡ hexDigit c
   unfolding hexDigit _&_ _or_
   in-numerals l h = rw (le-leb 48 c l, le-leb c 57 h)
 
-  pub below-letters : 57 < c → c < 97 → false ≡ hexDigit c
+  below-letters : 57 < c → c < 97 → false ≡ hexDigit c
   unfolding hexDigit _&_ _or_
   below-letters l h = rw (le-leb 48 c (omega arith), lt-leb c 57 l, lt-leb 97 c h)
 
-  pub from-letters : 97 ≤ c → leb c 102 ≡ hexDigit c
+  from-letters : 97 ≤ c → leb c 102 ≡ hexDigit c
   unfolding hexDigit _&_ _or_
   from-letters l = rw (le-leb 48 c (omega arith), lt-leb c 57 (omega arith), le-leb 97 c l)
+
+  -- the same as the code asks
+  pub up-to-numerals : c ≤ 57 → leb 48 c ≡ hexDigit c
+  up-to-numerals h = cases (leb 48 c) (λ e. e ∙ in-numerals (leb-true 48 c e) h) (λ e. e ∙ below-numerals (leb-false 48 c e))
+
+  pub up-to-letters : 57 < c → c ≤ 102 → leb 97 c ≡ hexDigit c
+  up-to-letters l h =
+      cases (leb 97 c) (λ e. e ∙ (sym (le-leb c 102 h) ∙ from-letters (leb-true 97 c e))) (λ e. e ∙ below-letters l (leb-false 97 c e))
+
+  pub above-letters : 102 < c → false ≡ hexDigit c
+  above-letters h = sym (lt-leb c 102 h) ∙ from-letters (omega arith)
 
   module _ (d : hexDigit c ≡ true) where
     -- a digit is a numeral or a letter

@@ -11,16 +11,13 @@ use encode::put_byte;
 fn hex_digit(c: u8) -> bool
     ensures { λ r. ⌜ r ≡ hexDigit c ⌝ }
 {
-    if c < 48 {
-        return false;
-    }
     if c <= 57 {
-        return true;
+        return 48 <= c;
     }
-    if c < 97 {
-        return false;
+    if c <= 102 {
+        return 97 <= c;
     }
-    c <= 102
+    false
 }
 
 // 1 once a character was no digit.

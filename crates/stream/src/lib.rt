@@ -6,14 +6,14 @@ ghost use mathlib.Core.Bool.{true, false};
 ghost use mathlib.Core.List.{_++_};
 ghost use mathlib.Core.Path.{_≡_};
 ghost use Prim.Native.Nat.{_+_, _≤_, _<_};
-ghost use lib.ListN.{length, take, set};
+ghost use lib.ListN.{length, set};
 ghost use Rattle.frame.specs.Answers.{Answers};
 ghost use Rattle.frame.specs.Frames.{faultOf};
 ghost use Rattle.frame.specs.Lines.{lineAnswer};
 ghost use Rattle.hex.specs.Hex.{hexOf};
 ghost use Rattle.stream.specs.Copied.{Copied};
 ghost use Rattle.stream.specs.Held.{Ready, nothing, Grows, Puts, Tells};
-ghost use Rattle.stream.specs.Told.{lineTold, told, toldLast, toEnd};
+ghost use Rattle.stream.specs.Told.{lineTold, toldLast, toEnd};
 use encode::put_byte;
 use frame::lines::line_answer;
 

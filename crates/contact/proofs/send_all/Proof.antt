@@ -48,7 +48,7 @@ same-length-2 : tie.Need-same-length-2 Inv-loop μ-loop
 same-length-2 c = omega arith
 
 returns : tie.Need-returns Inv-loop μ-loop
-returns c = (c .before .before .loop .inv .2 .ready, λ e. going-end (c .before .before .loop .inv .2) (c .before .loop-test .left) (c .if1 .taken))
+returns c = (c .before .before .loop .inv .2 .ready, λ e. going-end (c .before .before .loop .inv .2) (c .before .loop-test .left) (c .if1 .taken), λ e. differ refl e)
 
 same-length-3 : tie.Need-same-length-3 Inv-loop μ-loop
 same-length-3 c = omega arith
@@ -57,7 +57,7 @@ same-length-4 : tie.Need-same-length-4 Inv-loop μ-loop
 same-length-4 c = omega arith
 
 returns-2 : tie.Need-returns-2 Inv-loop μ-loop
-returns-2 c = (record { room = omega arith; most = omega arith }, λ e. differ e refl)
+returns-2 c = (record { room = omega arith; most = omega arith }, λ e. differ e refl, λ e. refl)
 
 pub send-all-spec : {M : Type 1} → statement M
 send-all-spec =
