@@ -1,7 +1,6 @@
 // The call as hosts know it: the cache is lent, and updated where it stands.
 ghost use Rattle.collide.specs.Call.{collideOf};
 ghost use Rattle.contactlib.specs.Lent.{Called};
-ghost use mathlib.Core.Path.{_≡_};
 use collide::collide_core;
 use links::HullSize;
 use manifold::Outcome;

@@ -1,10 +1,8 @@
 -- The numbers of a hull as they are taken from a frame, case by case. Assumes nothing.
 use Prim.Native.Nat.{ℕ, _+_, _*_, _<_, _≤_}
-use mathlib.Core.Path.{_≡_, refl, sym, ap, _∙_}
-use mathlib.Core.Bool.{Bool, true, false}
+use mathlib.Core.Path.{_≡_, sym, ap, _∙_}
 use mathlib.Core.List.{List, [], _++_}
 use native.Mathlib.Nat.{zero-add}
-use lib.Dec.{leb}
 use lib.ListN.{length, length-append}
 use lib.Ieee.{Float}
 use borrow.Author.Tests.{le-leb, lt-leb}

@@ -2,7 +2,6 @@
 // A frame is 1 to any number of bytes, its kind first; an answer is 2, 5 or 103.
 pub mod lines;
 
-ghost use mathlib.Core.Path.{_≡_};
 ghost use Prim.Native.Nat.{_≤_};
 ghost use lib.ListN.{length};
 ghost use Rattle.frame.specs.Answers.{Answers};

@@ -5,7 +5,7 @@ ghost use Prim.Native.Nat.{_/_, _≤_};
 ghost use lib.ListN.{length};
 ghost use Rattle.hex.specs.Hex.{hexLine, bytesOf};
 ghost use Rattle.frame.specs.Answers.{Answers};
-ghost use Rattle.frame.specs.Frames.{faultOf, frameAnswer};
+ghost use Rattle.frame.specs.Frames.{frameAnswer};
 ghost use Rattle.frame.specs.Lines.{answeredOf, lineAnswer};
 use crate::frame_answer;
 use crate::put_fault;

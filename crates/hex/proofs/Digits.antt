@@ -1,5 +1,5 @@
 -- Digits case by case, and the test of a whole line. Assumes nothing.
-use Prim.Native.Nat.{ℕ, _+_, _*_, _-_, _/_, _%_, _<_, _≤_}
+use Prim.Native.Nat.{ℕ, _+_, _-_, _%_, _<_, _≤_}
 use mathlib.Core.Path.{_≡_, refl, sym, ap, _∙_}
 use mathlib.Core.Bool.{Bool, true, false, cond, false≢true}
 use mathlib.Core.List.{List}
@@ -7,9 +7,9 @@ use native.Mathlib.Numerals.{add-one}
 use native.Mathlib.Omega.{arith}
 use lib.Dec.{eqb, leb}
 use lib.ListN.{length}
-use borrow.Author.Tests.{lt-ltb, le-ltb, le-leb, lt-leb, leb-true, leb-false, eqb-true}
+use borrow.Author.Tests.{lt-ltb, le-ltb, le-leb, lt-leb, leb-true, leb-false}
 use Rattle.links.specs.Tests.{_&_, _or_, all}
-use Rattle.links.proofs.Tests.{cases, and-left, and-right, and-false-left, and-last, all-at}
+use Rattle.links.proofs.Tests.{cases, and-left, and-false-left, and-last, all-at}
 use Rattle.hex.specs.Hex.{hexDigit, valueOf, digitOf, characterAt, hexAt, hexLine}
 
 module _ (c : ℕ) where

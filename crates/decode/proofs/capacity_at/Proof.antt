@@ -6,10 +6,6 @@ use Rattle.decode.specs.Fields.{signed}
 use borrow.Author.Needs.{needs}
 use Rattle.decode.proofs.capacity_at.Statement.{statement}
 use Rattle.decode.proofs.capacity_at.Tie as tie
-use Rattle.decode.proofs.capacity_at.Reads as reads
-use Rattle.decode.proofs.capacity_at.Lts as lts
-use Rattle.decode.proofs.number32_at.Reads as number32-at-reads
-use Rattle.decode.proofs.signed_of.Reads as signed-of-reads
 
 number32-at-requires : tie.Need-number32-at-requires
 number32-at-requires c κs = search needs

@@ -3,8 +3,6 @@ use Rattle.decode.proofs.Signs.{not-negative, negative-fits, negative}
 use borrow.Author.Needs.{needs}
 use Rattle.decode.proofs.signed_of.Statement.{statement}
 use Rattle.decode.proofs.signed_of.Tie as tie
-use Rattle.decode.proofs.signed_of.Reads as reads
-use Rattle.decode.proofs.signed_of.Lts as lts
 
 cast-result : tie.Need-cast-result
 cast-result c = search needs

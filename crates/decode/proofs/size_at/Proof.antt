@@ -2,9 +2,6 @@
 use borrow.Author.Needs.{needs}
 use Rattle.decode.proofs.size_at.Statement.{statement}
 use Rattle.decode.proofs.size_at.Tie as tie
-use Rattle.decode.proofs.size_at.Reads as reads
-use Rattle.decode.proofs.size_at.Lts as lts
-use Rattle.decode.proofs.number16_at.Reads as number16-at-reads
 
 number16-at-requires : tie.Need-number16-at-requires
 number16-at-requires c κs = search needs

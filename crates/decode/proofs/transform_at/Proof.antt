@@ -2,10 +2,6 @@
 use borrow.Author.Needs.{needs}
 use Rattle.decode.proofs.transform_at.Statement.{statement}
 use Rattle.decode.proofs.transform_at.Tie as tie
-use Rattle.decode.proofs.transform_at.Reads as reads
-use Rattle.decode.proofs.transform_at.Lts as lts
-use Rattle.decode.proofs.float_at.Reads as float-at-reads
-use Rattle.decode.proofs.vec_at.Reads as vec-at-reads
 
 vec-at-requires : tie.Need-vec-at-requires
 vec-at-requires c κs = search needs

@@ -2,9 +2,6 @@
 use borrow.Author.Needs.{needs}
 use Rattle.decode.proofs.vec_at.Statement.{statement}
 use Rattle.decode.proofs.vec_at.Tie as tie
-use Rattle.decode.proofs.vec_at.Reads as reads
-use Rattle.decode.proofs.vec_at.Lts as lts
-use Rattle.decode.proofs.float_at.Reads as float-at-reads
 
 float-at-requires : tie.Need-float-at-requires
 float-at-requires c κs = search needs

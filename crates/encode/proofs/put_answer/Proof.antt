@@ -5,10 +5,6 @@ use Rattle.encode.specs.Bytes.{answerBytes}
 use borrow.Author.Needs.{needs}
 use Rattle.encode.proofs.put_answer.Statement.{statement}
 use Rattle.encode.proofs.put_answer.Tie as tie
-use Rattle.encode.proofs.put_answer.Reads as reads
-use Rattle.encode.proofs.put_answer.Lts as lts
-use Rattle.encode.proofs.put_head.Reads as put-head-reads
-use Rattle.encode.proofs.put_points.Reads as put-points-reads
 
 put-head-requires : tie.Need-put-head-requires
 put-head-requires c κs = search needs

@@ -3,8 +3,6 @@ use Rattle.encode.proofs.Written.{once}
 use borrow.Author.Needs.{needs}
 use Rattle.encode.proofs.put_byte.Statement.{statement}
 use Rattle.encode.proofs.put_byte.Tie as tie
-use Rattle.encode.proofs.put_byte.Reads as reads
-use Rattle.encode.proofs.put_byte.Lts as lts
 
 slice-write-out : tie.Need-slice-write-out
 slice-write-out c = search needs

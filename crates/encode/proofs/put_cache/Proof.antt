@@ -4,10 +4,6 @@ use Rattle.encode.proofs.Written.{then}
 use borrow.Author.Needs.{needs}
 use Rattle.encode.proofs.put_cache.Statement.{statement}
 use Rattle.encode.proofs.put_cache.Tie as tie
-use Rattle.encode.proofs.put_cache.Reads as reads
-use Rattle.encode.proofs.put_cache.Lts as lts
-use Rattle.encode.proofs.put_byte.Reads as put-byte-reads
-use Rattle.encode.proofs.put_number.Reads as put-number-reads
 
 put-number-requires : tie.Need-put-number-requires
 put-number-requires c κs = search needs

@@ -5,10 +5,6 @@ use Rattle.encode.proofs.Written.{wrote-same}
 use borrow.Author.Needs.{needs}
 use Rattle.encode.proofs.put_float.Statement.{statement}
 use Rattle.encode.proofs.put_float.Tie as tie
-use Rattle.encode.proofs.put_float.Reads as reads
-use Rattle.encode.proofs.put_float.Lts as lts
-use Rattle.encode.proofs.put_number.Reads as put-number-reads
-use Rattle.manifold.proofs.bits.bits_of.Reads as bits-of-reads
 
 bits-of-requires : tie.Need-bits-of-requires
 bits-of-requires c κs = search needs

@@ -4,11 +4,6 @@ use Rattle.encode.proofs.Written.{then}
 use borrow.Author.Needs.{needs}
 use Rattle.encode.proofs.put_head.Statement.{statement}
 use Rattle.encode.proofs.put_head.Tie as tie
-use Rattle.encode.proofs.put_head.Reads as reads
-use Rattle.encode.proofs.put_head.Lts as lts
-use Rattle.encode.proofs.put_byte.Reads as put-byte-reads
-use Rattle.encode.proofs.put_cache.Reads as put-cache-reads
-use Rattle.encode.proofs.put_vec.Reads as put-vec-reads
 
 put-byte-requires : tie.Need-put-byte-requires
 put-byte-requires c κs = search needs

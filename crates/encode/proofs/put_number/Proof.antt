@@ -4,9 +4,6 @@ use Rattle.encode.proofs.Written.{then}
 use borrow.Author.Needs.{needs}
 use Rattle.encode.proofs.put_number.Statement.{statement}
 use Rattle.encode.proofs.put_number.Tie as tie
-use Rattle.encode.proofs.put_number.Reads as reads
-use Rattle.encode.proofs.put_number.Lts as lts
-use Rattle.encode.proofs.put_byte.Reads as put-byte-reads
 
 cast-put-byte : tie.Need-cast-put-byte
 cast-put-byte c = search needs

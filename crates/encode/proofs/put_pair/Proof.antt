@@ -4,9 +4,6 @@ use Rattle.encode.proofs.Written.{then}
 use borrow.Author.Needs.{needs}
 use Rattle.encode.proofs.put_pair.Statement.{statement}
 use Rattle.encode.proofs.put_pair.Tie as tie
-use Rattle.encode.proofs.put_pair.Reads as reads
-use Rattle.encode.proofs.put_pair.Lts as lts
-use Rattle.encode.proofs.put_byte.Reads as put-byte-reads
 
 put-byte-requires : tie.Need-put-byte-requires
 put-byte-requires c κs = search needs

@@ -4,11 +4,6 @@ use Rattle.encode.proofs.Written.{then}
 use borrow.Author.Needs.{needs}
 use Rattle.encode.proofs.put_point.Statement.{statement}
 use Rattle.encode.proofs.put_point.Tie as tie
-use Rattle.encode.proofs.put_point.Reads as reads
-use Rattle.encode.proofs.put_point.Lts as lts
-use Rattle.encode.proofs.put_float.Reads as put-float-reads
-use Rattle.encode.proofs.put_pair.Reads as put-pair-reads
-use Rattle.encode.proofs.put_vec.Reads as put-vec-reads
 
 put-vec-requires : tie.Need-put-vec-requires
 put-vec-requires c κs = search needs

@@ -4,9 +4,6 @@ use Rattle.encode.proofs.Written.{then}
 use borrow.Author.Needs.{needs}
 use Rattle.encode.proofs.put_points.Statement.{statement}
 use Rattle.encode.proofs.put_points.Tie as tie
-use Rattle.encode.proofs.put_points.Reads as reads
-use Rattle.encode.proofs.put_points.Lts as lts
-use Rattle.encode.proofs.put_point.Reads as put-point-reads
 
 array-copy-out-first : tie.Need-array-copy-out-first
 array-copy-out-first c = search needs

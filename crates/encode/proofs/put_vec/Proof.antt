@@ -4,9 +4,6 @@ use Rattle.encode.proofs.Written.{then}
 use borrow.Author.Needs.{needs}
 use Rattle.encode.proofs.put_vec.Statement.{statement}
 use Rattle.encode.proofs.put_vec.Tie as tie
-use Rattle.encode.proofs.put_vec.Reads as reads
-use Rattle.encode.proofs.put_vec.Lts as lts
-use Rattle.encode.proofs.put_float.Reads as put-float-reads
 
 put-float-requires : tie.Need-put-float-requires
 put-float-requires c κs = search needs

@@ -8,13 +8,6 @@ use Rattle.frame.proofs.Calls.{too-short, too-short-b, other-length, ri
 use borrow.Author.Needs.{needs}
 use Rattle.frame.proofs.call_answer.Statement.{statement}
 use Rattle.frame.proofs.call_answer.Tie as tie
-use Rattle.frame.proofs.call_answer.Reads as reads
-use Rattle.frame.proofs.call_answer.Lts as lts
-use Rattle.decode.proofs.hulls.hull_length.Reads as hull-length-reads
-use Rattle.decode.proofs.size_at.Reads as size-at-reads
-use Rattle.encode.proofs.put_answer.Reads as put-answer-reads
-use Rattle.request.proofs.call_of.Reads as call-of-reads
-use Rattle.frame.proofs.put_fault.Reads as put-fault-reads
 
 put-fault-requires : tie.Need-put-fault-requires
 put-fault-requires c κs = search needs

@@ -6,12 +6,6 @@ use Rattle.frame.proofs.Puts.{answers-same, flip-short, flip-whole}
 use borrow.Author.Needs.{needs}
 use Rattle.frame.proofs.flip_answer.Statement.{statement}
 use Rattle.frame.proofs.flip_answer.Tie as tie
-use Rattle.frame.proofs.flip_answer.Reads as reads
-use Rattle.frame.proofs.flip_answer.Lts as lts
-use Rattle.decode.proofs.pair_at.Reads as pair-at-reads
-use Rattle.frame.proofs.flipped_answer.Reads as flipped-answer-reads
-use Rattle.frame.proofs.put_fault.Reads as put-fault-reads
-use Rattle.manifold.proofs.pairs.flip_pair.Reads as flip-pair-reads
 
 put-fault-requires : tie.Need-put-fault-requires
 put-fault-requires c κs = search needs

@@ -5,11 +5,6 @@ use Rattle.frame.proofs.Puts.{put, answers-same, flip-refused, flip-don
 use borrow.Author.Needs.{needs}
 use Rattle.frame.proofs.flipped_answer.Statement.{statement}
 use Rattle.frame.proofs.flipped_answer.Tie as tie
-use Rattle.frame.proofs.flipped_answer.Reads as reads
-use Rattle.frame.proofs.flipped_answer.Lts as lts
-use Rattle.encode.proofs.put_byte.Reads as put-byte-reads
-use Rattle.encode.proofs.put_pair.Reads as put-pair-reads
-use Rattle.frame.proofs.put_fault.Reads as put-fault-reads
 
 put-fault-requires : tie.Need-put-fault-requires
 put-fault-requires c κs = search needs

@@ -3,12 +3,6 @@ use Rattle.frame.proofs.Puts.{answers-same, frame-none, frame-root, fra
 use borrow.Author.Needs.{needs}
 use Rattle.frame.proofs.frame_answer.Statement.{statement}
 use Rattle.frame.proofs.frame_answer.Tie as tie
-use Rattle.frame.proofs.frame_answer.Reads as reads
-use Rattle.frame.proofs.frame_answer.Lts as lts
-use Rattle.frame.proofs.call_answer.Reads as call-answer-reads
-use Rattle.frame.proofs.flip_answer.Reads as flip-answer-reads
-use Rattle.frame.proofs.put_fault.Reads as put-fault-reads
-use Rattle.frame.proofs.root_answer.Reads as root-answer-reads
 
 put-fault-requires : tie.Need-put-fault-requires
 put-fault-requires c κs = search needs

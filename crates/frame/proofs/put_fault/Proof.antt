@@ -5,9 +5,6 @@ use Rattle.frame.proofs.Puts.{put}
 use borrow.Author.Needs.{needs}
 use Rattle.frame.proofs.put_fault.Statement.{statement}
 use Rattle.frame.proofs.put_fault.Tie as tie
-use Rattle.frame.proofs.put_fault.Reads as reads
-use Rattle.frame.proofs.put_fault.Lts as lts
-use Rattle.encode.proofs.put_byte.Reads as put-byte-reads
 
 put-byte-requires : tie.Need-put-byte-requires
 put-byte-requires c κs = search needs

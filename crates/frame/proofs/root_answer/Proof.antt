@@ -8,13 +8,6 @@ use Rattle.frame.proofs.Puts.{put, answers-same, root-short, root-whole
 use borrow.Author.Needs.{needs}
 use Rattle.frame.proofs.root_answer.Statement.{statement}
 use Rattle.frame.proofs.root_answer.Tie as tie
-use Rattle.frame.proofs.root_answer.Reads as reads
-use Rattle.frame.proofs.root_answer.Lts as lts
-use Rattle.decode.proofs.float_at.Reads as float-at-reads
-use Rattle.encode.proofs.put_byte.Reads as put-byte-reads
-use Rattle.encode.proofs.put_float.Reads as put-float-reads
-use Rattle.frame.proofs.put_fault.Reads as put-fault-reads
-use Rattle.root.proofs.root.Reads as root-reads
 
 put-fault-requires : tie.Need-put-fault-requires
 put-fault-requires c κs = search needs

@@ -1,13 +1,9 @@
 -- Two digits of a line that has digits only.
-use native.Mathlib.Omega.{arith}
 use Rattle.hex.specs.Hex.{byteOf}
 use Rattle.hex.proofs.Digits.{line-digit}
 use borrow.Author.Needs.{needs}
 use Rattle.hex.proofs.byte_of.Statement.{statement}
 use Rattle.hex.proofs.byte_of.Tie as tie
-use Rattle.hex.proofs.byte_of.Reads as reads
-use Rattle.hex.proofs.byte_of.Lts as lts
-use Rattle.hex.proofs.value_of.Reads as value-of-reads
 
 mul-value-of : tie.Need-mul-value-of
 mul-value-of c = search needs

@@ -3,8 +3,6 @@ use Rattle.hex.proofs.Digits.{numeral-of, letter-of}
 use borrow.Author.Needs.{needs}
 use Rattle.hex.proofs.digit_of.Statement.{statement}
 use Rattle.hex.proofs.digit_of.Tie as tie
-use Rattle.hex.proofs.digit_of.Reads as reads
-use Rattle.hex.proofs.digit_of.Lts as lts
 
 add-result : tie.Need-add-result
 add-result c = search needs

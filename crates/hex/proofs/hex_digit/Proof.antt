@@ -2,8 +2,6 @@
 use Rattle.hex.proofs.Digits.{up-to-numerals, up-to-letters, above-letters}
 use Rattle.hex.proofs.hex_digit.Statement.{statement}
 use Rattle.hex.proofs.hex_digit.Tie as tie
-use Rattle.hex.proofs.hex_digit.Reads as reads
-use Rattle.hex.proofs.hex_digit.Lts as lts
 
 returns : tie.Need-returns
 returns c = up-to-numerals _ (c .if1 .taken)

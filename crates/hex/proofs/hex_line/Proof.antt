@@ -9,9 +9,6 @@ use Rattle.hex.specs.Hex.{hexAt}
 use Rattle.hex.proofs.Digits.{note-none, note-more, line-bad, line-digits}
 use Rattle.hex.proofs.hex_line.Statement.{statement}
 use Rattle.hex.proofs.hex_line.Tie as tie
-use Rattle.hex.proofs.hex_line.Reads as reads
-use Rattle.hex.proofs.hex_line.Lts as lts
-use Rattle.hex.proofs.noted.Reads as noted-reads
 
 abbrev Inv-loop : tie.InvT-loop
 Inv-loop line bad₀ i₀ bad i = (i ≤ length line) × (bad ≡ cond (all (hexAt line) i) 0 1)

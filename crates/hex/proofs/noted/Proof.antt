@@ -1,12 +1,8 @@
 -- The note stays, or becomes 1.
-use mathlib.Core.Path.{_∙_, sym, ap}
-use mathlib.Core.Bool.{cond}
+use mathlib.Core.Path.{_∙_, sym}
 use borrow.Author.Needs.{needs}
 use Rattle.hex.proofs.noted.Statement.{statement}
 use Rattle.hex.proofs.noted.Tie as tie
-use Rattle.hex.proofs.noted.Reads as reads
-use Rattle.hex.proofs.noted.Lts as lts
-use Rattle.hex.proofs.hex_digit.Reads as hex-digit-reads
 
 hex-digit-requires : tie.Need-hex-digit-requires
 hex-digit-requires c κs = search needs

@@ -8,11 +8,6 @@ use Rattle.hex.specs.Hex.{hexOf}
 use Rattle.hex.proofs.Bytes.{hex-begun, hex-turned, hex-ended}
 use Rattle.hex.proofs.put_hex.Statement.{statement}
 use Rattle.hex.proofs.put_hex.Tie as tie
-use Rattle.hex.proofs.put_hex.Reads as reads
-use Rattle.hex.proofs.put_hex.Lts as lts
-use Rattle.encode.proofs.put_byte.Reads as put-byte-reads
-use Rattle.hex.proofs.high_digit.Reads as high-digit-reads
-use Rattle.hex.proofs.low_digit.Reads as low-digit-reads
 
 abbrev Inv-loop : tie.InvT-loop
 Inv-loop bytes line₀ i₀ line i = (i ≤ length bytes) × (length line ≡ length line₀) × Wrote line₀ 0 (hexOf (take i bytes)) line

@@ -1,7 +1,7 @@
 use Rattle.decode.proofs.Tables.{begun, turned-front, ended}
 -- Each turn writes one byte behind those that stand.
 use borrow.Author.Needs.{needs}
-use Prim.Native.Nat.{_≤_, _-_, _+_, _*_, _/_}
+use Prim.Native.Nat.{_≤_, _-_, _/_}
 use mathlib.Core.Path.{_≡_}
 use lib.ListN.{length, length-set}
 use Rattle.encode.specs.Written.{Wrote}
@@ -9,9 +9,6 @@ use Rattle.decode.specs.Fields.{table}
 use Rattle.hex.specs.Hex.{byteOf}
 use Rattle.hex.proofs.take_bytes.Statement.{statement}
 use Rattle.hex.proofs.take_bytes.Tie as tie
-use Rattle.hex.proofs.take_bytes.Reads as reads
-use Rattle.hex.proofs.take_bytes.Lts as lts
-use Rattle.hex.proofs.byte_of.Reads as byte-of-reads
 
 abbrev Inv-loop : tie.InvT-loop
 Inv-loop line bytes₀ n i₀ bytes i = (i ≤ n) × (n ≡ length line / 2) × (length bytes ≡ length bytes₀) × Wrote bytes₀ 0 (table (byteOf line) i) bytes

@@ -3,8 +3,6 @@ use borrow.Author.Needs.{needs}
 use Rattle.hex.proofs.Digits.{not-below, letter-low, numeral-value, letter-value}
 use Rattle.hex.proofs.value_of.Statement.{statement}
 use Rattle.hex.proofs.value_of.Tie as tie
-use Rattle.hex.proofs.value_of.Reads as reads
-use Rattle.hex.proofs.value_of.Lts as lts
 
 sub-result : tie.Need-sub-result
 sub-result c = not-below _ (c .before .pre)

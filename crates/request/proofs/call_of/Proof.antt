@@ -1,23 +1,12 @@
 use Rattle.request.proofs.Calls.{taken-inside, taken-first, taken-long, links-at, a-inside, head-inside, call-is}
 -- The frame's own numbers, links and fields go to the call.
-use Prim.Native.Nat.{ℕ}
-use mathlib.Core.Path.{refl, sym, ap, _∙_}
+use mathlib.Core.Path.{sym, _∙_}
 use native.Mathlib.Omega.{arith}
 use mir.Syntax.{w32}
 use mir.ValLaws.{toZ-ofZ}
 use borrow.Author.Needs.{needs}
 use Rattle.request.proofs.call_of.Statement.{statement}
 use Rattle.request.proofs.call_of.Tie as tie
-use Rattle.request.proofs.call_of.Reads as reads
-use Rattle.request.proofs.call_of.Lts as lts
-use Rattle.collide.proofs.collide_core.Reads as collide-core-reads
-use Rattle.decode.proofs.cache_at.Reads as cache-at-reads
-use Rattle.decode.proofs.capacity_at.Reads as capacity-at-reads
-use Rattle.decode.proofs.hulls.links_from.Reads as links-from-reads
-use Rattle.decode.proofs.hulls.planes_at.Reads as planes-at-reads
-use Rattle.decode.proofs.hulls.take_numbers.Reads as take-numbers-reads
-use Rattle.decode.proofs.transform_at.Reads as transform-at-reads
-use Rattle.request.proofs.number_room.Reads as number-room-reads
 
 number-room-requires : tie.Need-number-room-requires
 number-room-requires c κs = search needs

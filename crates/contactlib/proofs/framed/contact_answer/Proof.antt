@@ -4,9 +4,6 @@ use native.Mathlib.Omega.{arith}
 use borrow.Author.Needs.{needs}
 use Rattle.contactlib.proofs.framed.contact_answer.Statement.{statement}
 use Rattle.contactlib.proofs.framed.contact_answer.Tie as tie
-use Rattle.contactlib.proofs.framed.contact_answer.Reads as reads
-use Rattle.contactlib.proofs.framed.contact_answer.Lts as lts
-use Rattle.frame.proofs.frame_answer.Reads as frame-answer-reads
 
 returns : tie.Need-returns
 returns c = let small = c .if1 .taken in record { short = λ h. (refl, refl); answers = λ h. absurd (omega arith) }

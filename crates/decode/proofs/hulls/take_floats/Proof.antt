@@ -8,9 +8,6 @@ use Rattle.decode.specs.Fields.{floatAt, floatsAt}
 use Rattle.decode.proofs.Tables.{begun, turned, ended}
 use Rattle.decode.proofs.hulls.take_floats.Statement.{statement}
 use Rattle.decode.proofs.hulls.take_floats.Tie as tie
-use Rattle.decode.proofs.hulls.take_floats.Reads as reads
-use Rattle.decode.proofs.hulls.take_floats.Lts as lts
-use Rattle.decode.proofs.float_at.Reads as float-at-reads
 
 abbrev Inv-loop : tie.InvT-loop
 Inv-loop frame at n numbers₀ from i₀ numbers i = (i ≤ n) × (length numbers ≡ length numbers₀) × Wrote numbers₀ from (floatsAt frame at i) numbers

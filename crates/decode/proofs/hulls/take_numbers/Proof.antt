@@ -1,15 +1,8 @@
 -- None, or the numbers before the links and the planes behind them.
-use mathlib.Core.Path.{_∙_, sym}
-use native.Mathlib.Omega.{arith}
 use Rattle.decode.proofs.Takes.{takes-none, takes-all}
 use borrow.Author.Needs.{needs}
 use Rattle.decode.proofs.hulls.take_numbers.Statement.{statement}
 use Rattle.decode.proofs.hulls.take_numbers.Tie as tie
-use Rattle.decode.proofs.hulls.take_numbers.Reads as reads
-use Rattle.decode.proofs.hulls.take_numbers.Lts as lts
-use Rattle.decode.proofs.hulls.planes_at.Reads as planes-at-reads
-use Rattle.decode.proofs.hulls.planes_from.Reads as planes-from-reads
-use Rattle.decode.proofs.hulls.take_floats.Reads as take-floats-reads
 
 planes-from-requires : tie.Need-planes-from-requires
 planes-from-requires c κs = search needs

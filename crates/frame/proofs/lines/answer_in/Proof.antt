@@ -1,15 +1,10 @@
 use Rattle.frame.proofs.Puts.{answers-same, bytes-first, bytes-long}
 -- The room's first bytes are the line's.
 use mathlib.Core.Path.{ap}
-use native.Mathlib.Omega.{arith}
 use Rattle.frame.specs.Frames.{frameAnswer}
 use borrow.Author.Needs.{needs}
 use Rattle.frame.proofs.lines.answer_in.Statement.{statement}
 use Rattle.frame.proofs.lines.answer_in.Tie as tie
-use Rattle.frame.proofs.lines.answer_in.Reads as reads
-use Rattle.frame.proofs.lines.answer_in.Lts as lts
-use Rattle.frame.proofs.frame_answer.Reads as frame-answer-reads
-use Rattle.hex.proofs.take_bytes.Reads as take-bytes-reads
 
 take-bytes-requires : tie.Need-take-bytes-requires
 take-bytes-requires c κs = search needs

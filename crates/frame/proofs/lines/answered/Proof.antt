@@ -5,13 +5,6 @@ use Rattle.frame.proofs.Puts.{answers-same, line-over, line-no-hex, lin
 use borrow.Author.Needs.{needs}
 use Rattle.frame.proofs.lines.answered.Statement.{statement}
 use Rattle.frame.proofs.lines.answered.Tie as tie
-use Rattle.frame.proofs.lines.answered.Reads as reads
-use Rattle.frame.proofs.lines.answered.Lts as lts
-use Rattle.frame.proofs.lines.answer_in.Reads as answer-in-reads
-use Rattle.frame.proofs.lines.long_room.Reads as long-room-reads
-use Rattle.frame.proofs.lines.short_room.Reads as short-room-reads
-use Rattle.frame.proofs.put_fault.Reads as put-fault-reads
-use Rattle.hex.proofs.hex_line.Reads as hex-line-reads
 
 put-fault-requires : tie.Need-put-fault-requires
 put-fault-requires c κs = search needs

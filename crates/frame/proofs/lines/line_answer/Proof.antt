@@ -5,11 +5,6 @@ use Rattle.frame.proofs.Lengths.{answered-length, line-answers}
 use borrow.Author.Needs.{needs}
 use Rattle.frame.proofs.lines.line_answer.Statement.{statement}
 use Rattle.frame.proofs.lines.line_answer.Tie as tie
-use Rattle.frame.proofs.lines.line_answer.Reads as reads
-use Rattle.frame.proofs.lines.line_answer.Lts as lts
-use Rattle.frame.proofs.lines.answer_room.Reads as answer-room-reads
-use Rattle.frame.proofs.lines.answered.Reads as answered-reads
-use Rattle.hex.proofs.put_hex.Reads as put-hex-reads
 
 answer-room-requires : tie.Need-answer-room-requires
 answer-room-requires c κs = search needs
