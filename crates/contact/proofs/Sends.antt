@@ -6,14 +6,15 @@ use mathlib.Core.List.{List}
 use native.Mathlib.Omega.{arith}
 use lib.ListN.{length, take, drop}
 use lib.Seq.{take-add, take-all}
-use Rattle.stream.specs.declared.Pending.{Pending}
+use Rattle.holding.specs.declared.Pending.{Pending}
 use Rattle.stream.specs.declared.Part.{Part}
 use Rattle.stream.specs.Told.{heldAfter}
-use Rattle.stream.specs.Held.{Ready, Tells}
+use Rattle.holding.specs.Held.{Ready}
+use Rattle.stream.specs.Tells.{Tells}
 use Rattle.contact.specs.Goes.{Goes}
 use Rattle.stream.proofs.Parts.{held-append}
 use Rattle.stream.proofs.Tells.{rest-is}
-use Rattle.stream.proofs.Holds.{differ}
+use Rattle.holding.proofs.Holds.{differ}
 
 pub goes-part : {chunk line o line′ o′ : List ℕ} {p : Pending} {r : Part} → Tells chunk line p o r line′ o′ → Goes (take (r .taken) chunk) line p line′ (r .held)
 goes-part t = record { held = t .held }

@@ -4,9 +4,9 @@ ghost use mathlib.Core.Bool.{true, false};
 ghost use mathlib.Core.Path.{_≡_};
 ghost use Prim.Native.Nat.{_-_, _≤_, _<_};
 ghost use lib.ListN.{length, take};
-ghost use Rattle.stream.specs.Held.{Ready, nothing};
+ghost use Rattle.holding.specs.Held.{Ready, nothing};
 ghost use Rattle.contact.specs.Goes.{Goes};
-use stream::Pending;
+use holding::Pending;
 use stream::tell_last;
 use stream::tell_part;
 

@@ -32,6 +32,7 @@ pub record Sized (f : List ℕ) (a : HullSize) (at : ℕ) (b : HullSize) : Type 
   pub b-sent : Sent b
   pub whole : length f ≡ at + hullLength b
 
+-- the call with what stands in the frame
 unfoldable pub callOf : List ℕ → Answer
 callOf f =
     collideOf (hullA f) (numbersOf f 41 (hullA f)) (linksOf f 41 (hullA f)) (hullB f) (numbersOf f (beginsB f) (hullB f)) (linksOf f (beginsB f) (hullB f))

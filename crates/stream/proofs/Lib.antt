@@ -1,5 +1,2 @@
-pub mod Copies
-pub mod Scans
 pub mod Parts
-pub mod Holds
 pub mod Tells

@@ -13,13 +13,15 @@ use Rattle.frame.specs.Answers.{Answers}
 use Rattle.frame.specs.Frames.{faultOf}
 use Rattle.frame.specs.Lines.{lineAnswer}
 use Rattle.frame.proofs.Lengths.{line-length, line-long}
-use Rattle.stream.specs.declared.Pending.{Pending}
+use Rattle.holding.specs.declared.Pending.{Pending}
 use Rattle.stream.specs.declared.Part.{Part}
-use Rattle.stream.specs.Told.{lineEnd, lineTold, told, heldAfter, toldLast, toEnd}
-use Rattle.stream.specs.Held.{Ready, nothing, Grows, Puts, Tells}
-use Rattle.stream.proofs.Scans.{toEnd-most}
+use Rattle.holding.specs.Ends.{lineEnd, toEnd}
+use Rattle.stream.specs.Told.{lineTold, told, heldAfter, toldLast}
+use Rattle.holding.specs.Held.{Ready, nothing, Grows}
+use Rattle.stream.specs.Tells.{Puts, Tells}
+use Rattle.holding.proofs.Scans.{toEnd-most}
 use Rattle.stream.proofs.Parts.{told-append, held-append, quiet-told, quiet-held, line-told, line-held}
-use Rattle.stream.proofs.Holds.{held-none, nothing-held, something-held}
+use Rattle.holding.proofs.Holds.{held-none, nothing-held, something-held}
 
 answers-same : {vs ws o o′ : List ℕ} {r : ℕ} → Answers vs o r o′ → vs ≡ ws → Answers ws o r o′
 answers-same {o = o} a e = record { count = a .count ∙ ap length e; bytes = a .bytes ∙ ap (λ l. l ++ drop (length l) o) e }

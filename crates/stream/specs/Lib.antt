@@ -1,3 +1,2 @@
 pub mod Told
-pub mod Held
-pub mod Copied
+pub mod Tells

@@ -1,14 +1,11 @@
 -- What the program tells: "reads standard input, one frame a line of lowercase hexadecimal (the last may lack its line end), and prints one line for each" (document 01,
 -- "The hex program"). The input comes in parts, cut anywhere: xs are always the characters that were read since the last line end. Definitions only.
-use Prim.Native.Nat.{ℕ, suc}
+use Prim.Native.Nat.{ℕ}
 use mathlib.Core.Bool.{cond}
 use mathlib.Core.List.{List, [], _∷_, _++_}
 use lib.Dec.{eqb}
+use Rattle.holding.specs.Ends.{lineEnd}
 use Rattle.frame.specs.Lines.{lineAnswer}
-
--- the code of the line end
-abbrev pub lineEnd : ℕ
-lineEnd = 10
 
 -- "one line for each": its answer, and a line end
 abbrev pub lineTold : List ℕ → List ℕ
@@ -28,8 +25,3 @@ heldAfter xs (c ∷ cs) = cond (eqb c lineEnd) (heldAfter [] cs) (heldAfter (xs 
 unfoldable pub toldLast : List ℕ → List ℕ
 toldLast [] = []
 toldLast (c ∷ cs) = lineTold (c ∷ cs)
-
--- how many characters stand before the first line end: all of them where there is none
-unfoldable pub toEnd : List ℕ → ℕ
-toEnd [] = 0
-toEnd (c ∷ cs) = cond (eqb c lineEnd) 0 (suc (toEnd cs))

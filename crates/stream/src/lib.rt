@@ -1,5 +1,5 @@
-// The lines of an input that comes in parts, cut anywhere, and the answer to each, told as soon as it has ended: specs/Told.antt says what is told, specs/Held.antt how the
-// characters of an unfinished line are held. Nothing here reads or writes.
+// The lines of an input that comes in parts, cut anywhere, and the answer to each, told as soon as it has ended: specs/Told.antt says what is told; how the
+// characters of an unfinished line are held is `holding`'s. Nothing here reads or writes.
 //
 // Lines are found by a scan of the part. One that lies whole in it is answered from there; only one that began in an earlier part is copied together first.
 ghost use mathlib.Core.Bool.{true, false};
@@ -11,87 +11,23 @@ ghost use Rattle.frame.specs.Answers.{Answers};
 ghost use Rattle.frame.specs.Frames.{faultOf};
 ghost use Rattle.frame.specs.Lines.{lineAnswer};
 ghost use Rattle.hex.specs.Hex.{hexOf};
-ghost use Rattle.stream.specs.Copied.{Copied};
-ghost use Rattle.stream.specs.Held.{Ready, nothing, Grows, Puts, Tells};
-ghost use Rattle.stream.specs.Told.{lineTold, toldLast, toEnd};
+ghost use Rattle.holding.specs.Held.{Ready};
+ghost use Rattle.stream.specs.Tells.{Puts, Tells};
+ghost use Rattle.stream.specs.Told.{lineTold, toldLast};
 use encode::put_byte;
 use frame::lines::line_answer;
-
-// The most characters that are kept of a line.
-const MOST: usize = 20000;
-
-const LINE_END: u8 = 10;
-
-// The longest answer, and its line end.
-const LONGEST: usize = 207;
-
-// What is held of a line whose end has not come: how many characters, and whether there were more than are kept.
-pub struct Pending {
-    pub len: usize,
-    pub over: bool,
-}
+use holding::Pending;
+use holding::end_line;
+use holding::goes_on;
+use holding::hold;
+use holding::is_nothing;
+use holding::line_end;
 
 // How many characters were told, what is held behind them, and how many places the answers take.
 pub struct Part {
     pub taken: usize,
     pub held: Pending,
     pub count: usize,
-}
-
-// The place of the first line end, or of the end.
-fn line_end(rest: &[u8]) -> usize
-    ensures { λ r. ⌜ r ≡ toEnd (now (rest .entry)) ⌝ }
-{
-    let mut i = 0;
-    while i < rest.len() {
-        if rest[i] == LINE_END {
-            return i;
-        }
-        i += 1;
-    }
-    i
-}
-
-fn copy(part: &[u8], line: &mut [u8], at: usize)
-    requires { ⌜ at + length (now part) ≤ length (now line) ⌝ }
-    ensures { λ _. ⌜ Copied (now (part .entry)) (now (line .entry)) at (length (now (part .entry))) (now (line .exit)) ⌝ }
-{
-    let mut i = 0;
-    while i < part.len() {
-        line[at + i] = part[i];
-        i += 1;
-    }
-}
-
-fn is_nothing(p: Pending) -> bool
-    ensures { λ r. ⌜ r ≡ nothing p ⌝ }
-{
-    if p.over {
-        return false;
-    }
-    p.len == 0
-}
-
-// More characters of the line that is held.
-fn hold(part: &[u8], line: &mut [u8], p: Pending) -> Pending
-    requires { ⌜ Ready (now line) p ⌝ }
-    ensures { λ r. ⌜ Grows (now (part .entry)) (now (line .entry)) p (now (line .exit)) r ⌝ }
-{
-    if p.over {
-        return p;
-    }
-    let len = p.len;
-    if MOST - len < part.len() {
-        return Pending {
-            len: len,
-            over: true,
-        };
-    }
-    copy(part, line, len);
-    Pending {
-        len: len + part.len(),
-        over: false,
-    }
 }
 
 // ff24
@@ -128,15 +64,6 @@ fn answer_ended(part: &[u8], line: &mut [u8], p: Pending, out: &mut [u8]) -> usi
     }
     let q = hold(part, line, p);
     answer_held(line, q, out)
-}
-
-// The line end behind an answer of n characters.
-fn end_line(out: &mut [u8], n: usize) -> usize
-    requires { ⌜ (n ≤ 206) × (207 ≤ length (now out)) ⌝ }
-    ensures { λ r. ⌜ (r ≡ n + 1) × (now (out .exit) ≡ set (now (out .entry)) n 10) ⌝ }
-{
-    out[n] = LINE_END;
-    n + 1
 }
 
 // What is told of the line that is held and ends with these characters.
@@ -183,17 +110,6 @@ fn tell_next(rest: &[u8], line: &mut [u8], p: Pending, out: &mut [u8]) -> Part
         held: q,
         count: 0,
     }
-}
-
-// Whether there is more to tell, and room for the longest answer.
-fn goes_on(i: usize, length: usize, n: usize, room: usize) -> bool
-    requires { ⌜ n ≤ room ⌝ }
-    ensures { λ r. ⌜ (r ≡ true → (i < length) × (n + 207 ≤ room)) × (r ≡ false → i < length → room < n + 207) ⌝ }
-{
-    if i < length {
-        return LONGEST <= room - n;
-    }
-    false
 }
 
 // What was read, to its end or until the next answer may find too little room: the answers stand in `out` from the first place on, in order.

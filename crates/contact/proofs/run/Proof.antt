@@ -3,7 +3,7 @@ use mathlib.Core.Path.{_≡_, refl}
 use native.Mathlib.Omega.{arith}
 use borrow.Author.Needs.{needs}
 use lib.ListN.{length, length-take}
-use Rattle.stream.specs.Held.{Ready}
+use Rattle.holding.specs.Held.{Ready}
 use Rattle.contact.proofs.run.Statement.{statement}
 use Rattle.contact.proofs.run.Tie as tie
 

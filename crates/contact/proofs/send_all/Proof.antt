@@ -3,7 +3,7 @@ use Prim.Native.Nat.{_-_}
 use mathlib.Core.Path.{_≡_, refl}
 use native.Mathlib.Omega.{arith}
 use lib.ListN.{length, length-take, length-drop}
-use Rattle.stream.proofs.Holds.{differ}
+use Rattle.holding.proofs.Holds.{differ}
 use Rattle.contact.proofs.Sends.{Going, going-none, going-more, going-end}
 use Rattle.contact.proofs.send_all.Statement.{statement}
 use Rattle.contact.proofs.send_all.Tie as tie

@@ -4,7 +4,7 @@ use mathlib.Core.Path.{_≡_, refl, _∙_}
 use native.Mathlib.Omega.{arith}
 use lib.ListN.{length, length-take, length-drop}
 use borrow.Rule.Slice.PartMut.{same-len-mid}
-use Rattle.stream.specs.Held.{Tells}
+use Rattle.stream.specs.Tells.{Tells}
 use Rattle.stream.proofs.Tells.{tells-none, tells-next, moves}
 use mathlib.Core.Path.{_≡_, refl}
 use Prim.Native.Nat.{_≤_, _-_, _*_}

@@ -2,9 +2,9 @@
 use Prim.Native.Nat.{_≤_, _-_}
 use native.Mathlib.Omega.{arith}
 use lib.ListN.{length}
-use Rattle.stream.proofs.Scans.{Scanned, scan-none, scan-more, scan-found, scan-end}
-use Rattle.stream.proofs.line_end.Statement.{statement}
-use Rattle.stream.proofs.line_end.Tie as tie
+use Rattle.holding.proofs.Scans.{Scanned, scan-none, scan-more, scan-found, scan-end}
+use Rattle.holding.proofs.line_end.Statement.{statement}
+use Rattle.holding.proofs.line_end.Tie as tie
 
 abbrev Inv-loop : tie.InvT-loop
 Inv-loop rest i₀ i = (i ≤ length rest) × Scanned rest i

@@ -1,6 +1,6 @@
 -- Too many are not nothing.
-use Rattle.stream.proofs.is_nothing.Statement.{statement}
-use Rattle.stream.proofs.is_nothing.Tie as tie
+use Rattle.holding.proofs.is_nothing.Statement.{statement}
+use Rattle.holding.proofs.is_nothing.Tie as tie
 
 returns : tie.Need-returns
 returns c = rw (c .if1 .taken)

@@ -9,7 +9,7 @@ use borrow.Author.Tests.{eq-eqb, ne-eqb, eqb-true}
 use lib.Dec.{eqb}
 use lib.ListN.{length, getD, take, drop, drop-of-length-le}
 use lib.Seq.{drop-cons, take-suc}
-use Rattle.stream.specs.Told.{lineEnd, toEnd}
+use Rattle.holding.specs.Ends.{lineEnd, toEnd}
 
 -- no line end before i
 pub record Scanned (rest : List ℕ) (i : ℕ) : Type 0 where

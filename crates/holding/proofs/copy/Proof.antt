@@ -3,10 +3,10 @@ use Prim.Native.Nat.{_≤_, _-_}
 use mathlib.Core.Path.{_≡_, refl}
 use native.Mathlib.Omega.{arith}
 use lib.ListN.{length, length-set}
-use Rattle.stream.specs.Copied.{Copied}
-use Rattle.stream.proofs.Copies.{copied-none, copied-more, copied-to}
-use Rattle.stream.proofs.copy.Statement.{statement}
-use Rattle.stream.proofs.copy.Tie as tie
+use Rattle.holding.specs.Copied.{Copied}
+use Rattle.holding.proofs.Copies.{copied-none, copied-more, copied-to}
+use Rattle.holding.proofs.copy.Statement.{statement}
+use Rattle.holding.proofs.copy.Tie as tie
 
 abbrev Inv-loop : tie.InvT-loop
 Inv-loop part line₀ at i₀ line i = (i ≤ length part) × (length line ≡ length line₀) × Copied part line₀ at i line

@@ -1,8 +1,8 @@
 -- One character, behind the answer.
 use mathlib.Core.Path.{refl}
 use borrow.Author.Needs.{needs}
-use Rattle.stream.proofs.end_line.Statement.{statement}
-use Rattle.stream.proofs.end_line.Tie as tie
+use Rattle.holding.proofs.end_line.Statement.{statement}
+use Rattle.holding.proofs.end_line.Tie as tie
 
 slice-write-out : tie.Need-slice-write-out
 slice-write-out c = search needs

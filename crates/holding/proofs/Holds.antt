@@ -8,9 +8,9 @@ use borrow.Author.Tests.{eqb-true, eqb-false}
 use lib.Dec.{eqb}
 use lib.ListN.{length, take, length-append, length-take}
 use lib.Seq.{take-paste, take-length}
-use Rattle.stream.specs.declared.Pending.{Pending}
-use Rattle.stream.specs.Copied.{Copied}
-use Rattle.stream.specs.Held.{Ready, Held, nothing, Grows}
+use Rattle.holding.specs.declared.Pending.{Pending}
+use Rattle.holding.specs.Copied.{Copied}
+use Rattle.holding.specs.Held.{Ready, Held, nothing, Grows}
 
 pub differ : {A : Type 0} {t : Bool} → t ≡ true → t ≡ false → A
 differ e f = let z : _≡_ {A = Bool} true false = sym e ∙ f in let n : _≡_ {A = ℕ} 0 1 = ap (λ t. cond t 0 1) z in absurd (omega arith)

@@ -2,11 +2,11 @@
 use native.Mathlib.Omega.{arith}
 use Prim.Native.Nat.{_-_}
 use borrow.Author.Tests.{leb-true, leb-false}
-use Rattle.stream.proofs.Holds.{differ}
+use Rattle.holding.proofs.Holds.{differ}
 use mathlib.Core.Path.{refl}
 use borrow.Author.Needs.{needs}
-use Rattle.stream.proofs.goes_on.Statement.{statement}
-use Rattle.stream.proofs.goes_on.Tie as tie
+use Rattle.holding.proofs.goes_on.Statement.{statement}
+use Rattle.holding.proofs.goes_on.Tie as tie
 
 sub-result : tie.Need-sub-result
 sub-result c = search needs

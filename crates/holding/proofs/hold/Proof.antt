@@ -1,9 +1,9 @@
 -- Too many before, too many now, or copied behind the others.
 use native.Mathlib.Omega.{arith}
-use Rattle.stream.proofs.Holds.{grows-over, grows-long, grows-copied}
+use Rattle.holding.proofs.Holds.{grows-over, grows-long, grows-copied}
 use borrow.Author.Needs.{needs}
-use Rattle.stream.proofs.hold.Statement.{statement}
-use Rattle.stream.proofs.hold.Tie as tie
+use Rattle.holding.proofs.hold.Statement.{statement}
+use Rattle.holding.proofs.hold.Tie as tie
 
 returns : tie.Need-returns
 returns c = grows-over (c .before .before .before .pre) (c .if1 .taken)

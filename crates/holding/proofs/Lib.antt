@@ -1,0 +1,3 @@
+pub mod Copies
+pub mod Scans
+pub mod Holds
