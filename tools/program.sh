@@ -21,3 +21,17 @@ proved_program() {
 frames_of() {
     LC_ALL=C grep -av -e '^#' -e '^[[:space:]]*$' "$1"
 }
+
+# crates_of NAME: the crates of this repository that NAME is made of, itself among them, one a line.
+crates_of() {
+    awk -v name="$1" '
+        function add(n,    k, a, m) {
+            if (seen[n]++ || !(n in uses)) return
+            print n
+            m = split(uses[n], a, " ")
+            for (k = 1; k <= m; k++) add(a[k])
+        }
+        { sub(/#.*/, "") }
+        /:/ { uses[substr($0, 1, index($0, ":") - 1)] = substr($0, index($0, ":") + 1) }
+        END { add(name) }' crates.txt
+}

@@ -1,12 +1,13 @@
--- The cases of the answer: a stop among A's faces, among B's faces or among the pairs of edges, in this order, and what is found where nothing stops. Assumes nothing.
+-- The cases of the answer: a stop among A's faces, among B's faces or among the pairs of edges, in this order, and what is found where nothing stops.
+-- Assumes nothing.
 use mathlib.Core.Bool.{Bool, true, false, cond}
 use mathlib.Core.Path.{_≡_, sym, ap, _∙_}
-use Rattle.leads.specs.declared.Lead.{Lead}
+use Rattle.axis_best.specs.declared.Lead.{Lead}
 use Rattle.axis.specs.declared.Wanted.{Wanted}
 use Rattle.axis.specs.declared.Axis.{Axis}
 use Rattle.axis.specs.declared.EdgeAxis.{EdgeAxis}
 use Rattle.axis.specs.declared.Search.{Search}
-use Rattle.axis.specs.Search.{axisOf, apartOf, edgeOf, missingOf, foundOf, answerOf}
+use Rattle.axis.specs.Search.{axisOf, apartOf, edgeOf, missingOf, foundOf, searchAnswerOf}
 
 -- a test whose outcome is known picks its side
 yes : {A : Type 0} {b : Bool} (x y : A) → b ≡ true → x ≡ cond b x y
@@ -23,20 +24,20 @@ module _ (w : Wanted) (a b e : Lead) where
   abbrev from-b : Search
   from-b = cond (b .apart) (apartOf 3 b) from-edges
 
-  pub stops-at-a : a .apart ≡ true → apartOf 2 a ≡ answerOf w a b e
-  unfolding answerOf
+  pub stops-at-a : a .apart ≡ true → apartOf 2 a ≡ searchAnswerOf w a b e
+  unfolding searchAnswerOf
   stops-at-a h = yes (apartOf 2 a) from-b h
 
-  pub stops-at-b : a .apart ≡ false → b .apart ≡ true → apartOf 3 b ≡ answerOf w a b e
-  unfolding answerOf
+  pub stops-at-b : a .apart ≡ false → b .apart ≡ true → apartOf 3 b ≡ searchAnswerOf w a b e
+  unfolding searchAnswerOf
   stops-at-b k h = yes (apartOf 3 b) from-edges h ∙ no (apartOf 2 a) from-b k
 
-  pub stops-at-edge : a .apart ≡ false → b .apart ≡ false → e .apart ≡ true → apartOf 4 e ≡ answerOf w a b e
-  unfolding answerOf
+  pub stops-at-edge : a .apart ≡ false → b .apart ≡ false → e .apart ≡ true → apartOf 4 e ≡ searchAnswerOf w a b e
+  unfolding searchAnswerOf
   stops-at-edge k l h = yes (apartOf 4 e) (foundOf w a b e) h ∙ no (apartOf 3 b) from-edges l ∙ no (apartOf 2 a) from-b k
 
-  pub goes-through : a .apart ≡ false → b .apart ≡ false → e .apart ≡ false → foundOf w a b e ≡ answerOf w a b e
-  unfolding answerOf
+  pub goes-through : a .apart ≡ false → b .apart ≡ false → e .apart ≡ false → foundOf w a b e ≡ searchAnswerOf w a b e
+  unfolding searchAnswerOf
   goes-through k l h = no (apartOf 4 e) (foundOf w a b e) h ∙ no (apartOf 3 b) from-edges l ∙ no (apartOf 2 a) from-b k
 
   abbrev all : Search
@@ -51,9 +52,9 @@ module _ (w : Wanted) (a b e : Lead) where
   all-found h = no Search.NoFace all h
 
 -- leads that go by other names
-pub same-answer : (w : Wanted) {a a′ b b′ e e′ : Lead} → a ≡ a′ → b ≡ b′ → e ≡ e′ → answerOf w a b e ≡ answerOf w a′ b′ e′
+pub same-answer : (w : Wanted) {a a′ b b′ e e′ : Lead} → a ≡ a′ → b ≡ b′ → e ≡ e′ → searchAnswerOf w a b e ≡ searchAnswerOf w a′ b′ e′
 same-answer w {a} {a′} {b} {b′} {e} {e′} p q r =
-    ap (λ (z : Lead). answerOf w z b e) p ∙ ap (λ (z : Lead). answerOf w a′ z e) q ∙ ap (λ (z : Lead). answerOf w a′ b′ z) r
+    ap (λ (z : Lead). searchAnswerOf w z b e) p ∙ ap (λ (z : Lead). searchAnswerOf w a′ z e) q ∙ ap (λ (z : Lead). searchAnswerOf w a′ b′ z) r
 
 -- the record of what was found, its parts by other names
 pub same-found : {x x′ y y′ : Axis} {d d′ : EdgeAxis} → x ≡ x′ → y ≡ y′ → d ≡ d′

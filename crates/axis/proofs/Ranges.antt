@@ -1,5 +1,5 @@
--- What the search finds has numbers in range: its faces are faces of their hulls, its pair of edges half-edges. And a search without an early stop is never apart.
--- Assumes nothing.
+-- What the search finds has numbers in range: its faces are faces of their hulls, its pair of edges half-edges. And a search without an early stop is
+-- never apart. Assumes nothing.
 use Prim.Native.Nat.{ℕ, _*_, _<_}
 use mathlib.Core.Bool.{Bool, true, false, cond}
 use mathlib.Core.List.{List}
@@ -11,26 +11,33 @@ use Rattle.bounds.proofs.Laws.{picked}
 use Rattle.vector.specs.declared.Vec3.{Vec3}
 use Rattle.vector.specs.declared.Transform.{Transform}
 use Rattle.rotation.specs.Rotation.{Rows}
-use Rattle.links.specs.declared.HullSize.{HullSize}
+use Rattle.hull_links.specs.declared.HullSize.{HullSize}
 use Rattle.hull.specs.Accepted.{Accepted}
-use Rattle.leads.specs.declared.Lead.{Lead}
-use Rattle.leads.specs.Leads.{noneOf, betterOf, stopsOf}
-use Rattle.leads.proofs.Searches.{holds}
-use Rattle.faces.specs.Faces.{takenOf, sideWith, sideOf}
-use Rattle.edges.specs.declared.EdgeA.{EdgeA}
-use Rattle.edges.specs.declared.EdgeB.{EdgeB}
-use Rattle.edges.specs.Edges.{passesOf, parallelOf, triedOf, pairOf, rowPairs, dotRight}
-use Rattle.crossings.specs.All.{allPairs}
+use Rattle.axis_best.specs.declared.Lead.{Lead}
+use Rattle.axis_best.specs.Leads.{noneOf, betterOf, stopsOf}
+use Rattle.axis_best.proofs.Searches.{holds}
+use Rattle.axis_faces.specs.Faces.{faceTakenOf, faceSearchWith, faceSearchOf}
+use Rattle.axis_edges.specs.declared.EdgeA.{EdgeA}
+use Rattle.axis_edges.specs.declared.EdgeB.{EdgeB}
+use Rattle.axis_edges.specs.Edges.{passesOf, parallelOf, triedOf, edgePairOf, rowPairs, dotRight}
+use Rattle.axis_pairs.specs.All.{allPairs}
 use Rattle.axis.specs.declared.Wanted.{Wanted}
 use Rattle.axis.specs.declared.Search.{Search}
 use Rattle.axis.specs.Ranges.{EdgeInRange, InRange}
-use Rattle.axis.specs.Search.{axisOf, apartOf, edgeOf, missingOf, foundOf, answerOf, sideOfA, sideOfB, pairsOf, searchOf}
+use Rattle.axis.specs.Search.{axisOf, apartOf, edgeOf, missingOf, foundOf, searchAnswerOf, sideOfA, sideOfB, pairsOf, searchOf}
 
 -- ---- what every new best keeps, where it holds of its numbers and of its stop
 module _ (P : Lead → Type 0) (early : Bool) where
   -- a new best, with its numbers
   abbrev New : ℕ → ℕ → Type 0
-  New a b = (normal : Vec3) (separation : Float) → P (record { found = true; apart = stopsOf early separation; normal = normal; separation = separation; «index_a» = a; «index_b» = b })
+  New a b = (normal : Vec3) (separation : Float) → P (record {
+    found = true;
+    apart = stopsOf early separation;
+    normal = normal;
+    separation = separation;
+    «index_a» = a;
+    «index_b» = b;
+  })
 
   better-keeps : (normal : Vec3) (separation : Float) (a b : ℕ) (lead : Lead) → New a b → P lead → P (betterOf early normal separation a b lead)
   unfolding betterOf
@@ -38,19 +45,21 @@ module _ (P : Lead → Type 0) (early : Bool) where
 
   -- of the faces of one side; own says which of the two numbers is the face's
   side-keeps : (own : Bool) (turn : Rows) (position : Vec3) (s : HullSize) (n : List Float) (t : HullSize) (m : List Float) → P noneOf
-      → ((f v : ℕ) → f < s .faces → cond own (New f v) (New v f)) → P (sideOf early own turn position s n t m)
-  unfolding sideOf sideWith takenOf
+      → ((f v : ℕ) → f < s .faces → cond own (New f v) (New v f)) → P (faceSearchOf early own turn position s n t m)
+  unfolding faceSearchOf faceSearchWith faceTakenOf
   side-keeps true turn position s n t m none new =
       holds P _ noneOf (s .faces) none (λ f h lead p. better-keeps _ _ f _ lead (new f _ h) p)
   side-keeps false turn position s n t m none new =
       holds P _ noneOf (s .faces) none (λ f h lead p. better-keeps _ _ _ f lead (new f _ h) p)
 
-  pair-keeps : (a : EdgeA) (b : EdgeB) (i j : ℕ) (lead : Lead) → New (2 * i) (2 * j) → P lead → P (pairOf early a b i j lead)
-  unfolding pairOf triedOf
+  pair-keeps : (a : EdgeA) (b : EdgeB) (i j : ℕ) (lead : Lead) → New (2 * i) (2 * j) → P lead → P (edgePairOf early a b i j lead)
+  unfolding edgePairOf triedOf
   pair-keeps a b i j lead new p =
       picked P
-      (passesOf (dotRight (b .normal0) (a .direction)) (dotRight (b .normal1) (a .direction)) (dotRight (a .normal0) (b .direction)) (dotRight (a .normal1) (b .direction)))
-      (picked P (parallelOf (dotRight (b .normal0) (a .direction)) (dotRight (b .normal1) (a .direction)) (a .direction)) p (better-keeps _ _ (2 * i) (2 * j) lead new p))
+      (passesOf (dotRight (b .normal0) (a .direction)) (dotRight (b .normal1) (a .direction)) (dotRight (a .normal0) (b .direction))
+      (dotRight (a .normal1) (b .direction)))
+      (picked P (parallelOf (dotRight (b .normal0) (a .direction)) (dotRight (b .normal1) (a .direction)) (a .direction)) p
+      (better-keeps _ _ (2 * i) (2 * j) lead new p))
       p
 
   pairs-keep : (a : ℕ → EdgeA) (n : ℕ) (b : ℕ → EdgeB) (m : ℕ) → P noneOf → ((i j : ℕ) → i < n → j < m → New (2 * i) (2 * j)) → P (allPairs early a n b m)
@@ -61,8 +70,8 @@ module _ (P : Lead → Type 0) (early : Bool) where
 -- ---- the numbers of an answer
 module _ (s t : HullSize) (a b e : Lead) (on-a : a .«index_a» < s .faces) (on-b : b .«index_b» < t .faces)
     (on-edges : (e .«index_a» < s .«half_edges») × (e .«index_b» < t .«half_edges»)) where
-  answer-in-range : (w : Wanted) → InRange s t (answerOf w a b e)
-  unfolding answerOf apartOf foundOf edgeOf axisOf InRange EdgeInRange
+  answer-in-range : (w : Wanted) → InRange s t (searchAnswerOf w a b e)
+  unfolding searchAnswerOf apartOf foundOf edgeOf axisOf InRange EdgeInRange
   answer-in-range w =
       picked (InRange s t) (a .apart) tt
       (picked (InRange s t) (b .apart) tt
@@ -74,8 +83,10 @@ module _ {s t : HullSize} {n m : List Float} {l k : List ℕ} (x : Transform) (a
   unfolding searchOf sideOfA sideOfB pairsOf
   in-range early w =
       answer-in-range s t _ _ _
-      (side-keeps (λ (lead : Lead). lead .«index_a» < s .faces) early true _ (x .p) s n t m (omega (arith, a .numbers-fit .f-low)) (λ f v h normal separation. h))
-      (side-keeps (λ (lead : Lead). lead .«index_b» < t .faces) early false _ (x .p) t m s n (omega (arith, b .numbers-fit .f-low)) (λ f v h normal separation. h))
+      (side-keeps (λ (lead : Lead). lead .«index_a» < s .faces) early true _ (x .p) s n t m (omega (arith, a .numbers-fit .f-low))
+      (λ f v h normal separation. h))
+      (side-keeps (λ (lead : Lead). lead .«index_b» < t .faces) early false _ (x .p) t m s n (omega (arith, b .numbers-fit .f-low))
+      (λ f v h normal separation. h))
       (pairs-keep (λ (lead : Lead). (lead .«index_a» < s .«half_edges») × (lead .«index_b» < t .«half_edges»)) early _ _ _ _
       (omega (arith, a .links-fit .h-low), omega (arith, b .links-fit .h-low)) (λ i j g h normal separation. (omega (arith, g), omega (arith, h))))
       w
@@ -89,11 +100,13 @@ NotApart Search.NoFace = Unit {0}
 passed-by : (P : Search → Type 0) (u : Bool) (x : Search) {y : Search} → u ≡ false → P y → P (cond u x y)
 passed-by P u x {y} q p = subst (λ (z : Bool). P (cond z x y)) (sym q) p
 
-not-apart : (w : Wanted) (a b e : Lead) → a .apart ≡ false → b .apart ≡ false → e .apart ≡ false → NotApart (answerOf w a b e)
-unfolding answerOf foundOf NotApart
-not-apart w a b e p q r = passed-by NotApart (a .apart) (apartOf 2 a) p (passed-by NotApart (b .apart) (apartOf 3 b) q (passed-by NotApart (e .apart) (apartOf 4 e) r (picked NotApart (missingOf w a b) tt tt)))
+not-apart : (w : Wanted) (a b e : Lead) → a .apart ≡ false → b .apart ≡ false → e .apart ≡ false → NotApart (searchAnswerOf w a b e)
+unfolding searchAnswerOf foundOf NotApart
+not-apart w a b e p q r = passed-by NotApart (a .apart) (apartOf 2 a) p
+    (passed-by NotApart (b .apart) (apartOf 3 b) q (passed-by NotApart (e .apart) (apartOf 4 e) r (picked NotApart (missingOf w a b) tt tt)))
 
-pub never-apart : (s : HullSize) (n : List Float) (l : List ℕ) (t : HullSize) (m : List Float) (k : List ℕ) (x : Transform) (w : Wanted) → NotApart (searchOf s n l t m k x false w)
+pub never-apart : (s : HullSize) (n : List Float) (l : List ℕ) (t : HullSize) (m : List Float) (k : List ℕ) (x : Transform) (w : Wanted)
+    → NotApart (searchOf s n l t m k x false w)
 unfolding searchOf sideOfA sideOfB pairsOf stopsOf
 never-apart s n l t m k x w =
     let going : Lead → Type 0 = λ lead. lead .apart ≡ false in

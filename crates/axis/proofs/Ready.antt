@@ -9,10 +9,11 @@ use Rattle.vector.specs.Bounded.{VecBelow}
 use Rattle.rotation.specs.Rotation.{Rows, matrixOf, transposeOf}
 use Rattle.rotation.specs.Bounded.{RowsBelow}
 use Rattle.rotation.proofs.Bounded.{matrix-below, transpose-below}
-use Rattle.links.specs.declared.HullSize.{HullSize}
-use Rattle.hull.specs.Accepted.{Accepted, Placed}
-use Rattle.faces.specs.Ready.{Facing}
-use Rattle.edges.specs.Ready.{EdgesIn}
+use Rattle.hull_links.specs.declared.HullSize.{HullSize}
+use Rattle.hull_limits.specs.Transform.{Placed}
+use Rattle.hull.specs.Accepted.{Accepted}
+use Rattle.axis_faces.specs.Ready.{Facing}
+use Rattle.axis_edges.specs.Ready.{EdgesIn}
 
 pub edges-in : {s : HullSize} {n : List Float} {l : List ℕ} → Accepted s n l → EdgesIn s l
 edges-in ok = record { fit = ok .links-fit; origin-in = ok .origin-in; face-in = ok .face-in }

@@ -1,6 +1,7 @@
--- The numbers of an answer are in range: its faces are faces of their hulls, its pair of edges half-edges. Definitions only; proofs/Ranges.antt shows it of every search.
+-- The numbers of an answer are in range: its faces are faces of their hulls, its pair of edges half-edges. Definitions only; proofs/Ranges.antt shows
+-- it of every search.
 use Prim.Native.Nat.{_<_}
-use Rattle.links.specs.declared.HullSize.{HullSize}
+use Rattle.hull_links.specs.declared.HullSize.{HullSize}
 use Rattle.axis.specs.declared.EdgeAxis.{EdgeAxis}
 use Rattle.axis.specs.declared.Search.{Search}
 

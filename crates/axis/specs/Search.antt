@@ -1,4 +1,5 @@
--- "The axis search answers one of three things: an axis apart with its separation, face A and face B with the edge pair, or no face of the wanted side." Definitions only.
+-- "The axis search answers one of three things: an axis apart with its separation, face A and face B with the edge pair, or no face of the wanted
+-- side." Definitions only.
 use Prim.Native.Nat.{ℕ, _/_}
 use mathlib.Core.Bool.{Bool, true, false, cond, not}
 use mathlib.Core.List.{List}
@@ -6,11 +7,11 @@ use lib.Ieee as Ieee
 use lib.Ieee.{Float}
 use Rattle.vector.specs.declared.Transform.{Transform}
 use Rattle.rotation.specs.Rotation.{matrixOf, transposeOf}
-use Rattle.links.specs.declared.HullSize.{HullSize}
-use Rattle.leads.specs.declared.Lead.{Lead}
-use Rattle.faces.specs.Faces.{sideOf}
-use Rattle.edges.specs.Edges.{edgeOfA, edgeOfB}
-use Rattle.crossings.specs.All.{allPairs}
+use Rattle.hull_links.specs.declared.HullSize.{HullSize}
+use Rattle.axis_best.specs.declared.Lead.{Lead}
+use Rattle.axis_faces.specs.Faces.{faceSearchOf}
+use Rattle.axis_edges.specs.Edges.{edgeOfA, edgeOfB}
+use Rattle.axis_pairs.specs.All.{allPairs}
 use Rattle.axis.specs.declared.Wanted.{Wanted}
 use Rattle.axis.specs.declared.Axis.{Axis}
 use Rattle.axis.specs.declared.EdgeAxis.{EdgeAxis}
@@ -44,19 +45,19 @@ foundOf wanted a b edge =
     cond (missingOf wanted a b) Search.NoFace (Search.Found (record { «face_a» = axisOf a; «face_b» = axisOf b; edge = edgeOf edge }))
 
 -- a stop among A's faces, B's faces or the pairs of edges, in this order; else what was found
-unfoldable pub answerOf : Wanted → Lead → Lead → Lead → Search
-answerOf wanted a b edge = cond (a .apart) (apartOf 2 a) (cond (b .apart) (apartOf 3 b) (cond (edge .apart) (apartOf 4 edge) (foundOf wanted a b edge)))
+unfoldable pub searchAnswerOf : Wanted → Lead → Lead → Lead → Search
+searchAnswerOf wanted a b edge = cond (a .apart) (apartOf 2 a) (cond (b .apart) (apartOf 3 b) (cond (edge .apart) (apartOf 4 edge) (foundOf wanted a b edge)))
 
 -- the three searches
 unfoldable pub sideOfA : Bool → HullSize → List Float → HullSize → List Float → Transform → Lead
-sideOfA early s n t m x = sideOf early true (transposeOf (matrixOf (x .q))) (x .p) s n t m
+sideOfA early s n t m x = faceSearchOf early true (transposeOf (matrixOf (x .q))) (x .p) s n t m
 
 unfoldable pub sideOfB : Bool → HullSize → List Float → HullSize → List Float → Transform → Lead
-sideOfB early s n t m x = sideOf early false (matrixOf (x .q)) (x .p) t m s n
+sideOfB early s n t m x = faceSearchOf early false (matrixOf (x .q)) (x .p) t m s n
 
 unfoldable pub pairsOf : Bool → HullSize → List Float → List ℕ → HullSize → List Float → List ℕ → Transform → Lead
 pairsOf early s n l t m k x = allPairs early (edgeOfA s n l) (s .«half_edges» / 2) (edgeOfB (matrixOf (x .q)) (x .p) t m k) (t .«half_edges» / 2)
 
 -- hull A is (s, n, l), hull B is (t, m, k), and x places B in A's frame
 unfoldable pub searchOf : HullSize → List Float → List ℕ → HullSize → List Float → List ℕ → Transform → Bool → Wanted → Search
-searchOf s n l t m k x early wanted = answerOf wanted (sideOfA early s n t m x) (sideOfB early s n t m x) (pairsOf early s n l t m k x)
+searchOf s n l t m k x early wanted = searchAnswerOf wanted (sideOfA early s n t m x) (sideOfB early s n t m x) (pairsOf early s n l t m k x)

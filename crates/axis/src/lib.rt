@@ -1,10 +1,11 @@
 // The axis search of separating_axis.rs and its answer: the faces of A, the faces of B, then the pairs of edges.
 ghost use mathlib.Core.Path.{_≡_};
 ghost use Rattle.rotation.specs.Rotation.{matrixOf};
-ghost use Rattle.hull.specs.Accepted.{Accepted, Placed};
+ghost use Rattle.hull_limits.specs.Transform.{Placed};
+ghost use Rattle.hull.specs.Accepted.{Accepted};
 ghost use Rattle.axis.specs.Search.{axisOf, apartOf, edgeOf, winnerOf, missingOf, foundOf, sideOfA, sideOfB, pairsOf, searchOf};
-use leads::Lead;
-use links::HullSize;
+use axis_best::Lead;
+use hull_links::HullSize;
 use vector::Transform;
 use vector::Vec3;
 
@@ -136,11 +137,12 @@ fn side_a(
     transform: Transform,
     r: [[f32; 3]; 3],
 ) -> Lead
-    requires { ⌜ Accepted «size_a» (now «numbers_a») (now «links_a») × Accepted «size_b» (now «numbers_b») (now «links_b») × Placed transform × (r ≡ matrixOf (transform .q)) ⌝ }
+    requires { ⌜ Accepted «size_a» (now «numbers_a») (now «links_a») × Accepted «size_b» (now «numbers_b») (now «links_b») × Placed transform
+        × (r ≡ matrixOf (transform .q)) ⌝ }
     ensures { λ x. ⌜ x ≡ sideOfA early «size_a» (now («numbers_a» .entry)) «size_b» (now («numbers_b» .entry)) transform ⌝ }
 {
     let inverse = rotation::transpose(r);
-    faces::search_faces(
+    axis_faces::search_faces(
         early,
         true,
         inverse,
@@ -164,10 +166,11 @@ fn side_b(
     transform: Transform,
     r: [[f32; 3]; 3],
 ) -> Lead
-    requires { ⌜ Accepted «size_a» (now «numbers_a») (now «links_a») × Accepted «size_b» (now «numbers_b») (now «links_b») × Placed transform × (r ≡ matrixOf (transform .q)) ⌝ }
+    requires { ⌜ Accepted «size_a» (now «numbers_a») (now «links_a») × Accepted «size_b» (now «numbers_b») (now «links_b») × Placed transform
+        × (r ≡ matrixOf (transform .q)) ⌝ }
     ensures { λ x. ⌜ x ≡ sideOfB early «size_a» (now («numbers_a» .entry)) «size_b» (now («numbers_b» .entry)) transform ⌝ }
 {
-    faces::search_faces(
+    axis_faces::search_faces(
         early,
         false,
         r,
@@ -192,9 +195,10 @@ fn edge_pairs(
     transform: Transform,
 ) -> Lead
     requires { ⌜ Accepted «size_a» (now «numbers_a») (now «links_a») × Accepted «size_b» (now «numbers_b») (now «links_b») × (r ≡ matrixOf (transform .q)) ⌝ }
-    ensures { λ x. ⌜ x ≡ pairsOf early «size_a» (now («numbers_a» .entry)) (now («links_a» .entry)) «size_b» (now («numbers_b» .entry)) (now («links_b» .entry)) transform ⌝ }
+    ensures { λ x. ⌜ x ≡ pairsOf early «size_a» (now («numbers_a» .entry)) (now («links_a» .entry)) «size_b» (now («numbers_b» .entry))
+        (now («links_b» .entry)) transform ⌝ }
 {
-    crossings::search_edges(
+    axis_pairs::search_edges(
         early,
         numbers_a,
         links_a,
@@ -207,7 +211,8 @@ fn edge_pairs(
     )
 }
 
-// The hulls are A and, placed in A's frame by the transform, B. With `early`, the search stops at the first new best that is strictly above the speculative distance.
+// The hulls are A and, placed in A's frame by the transform, B. With `early`, the search stops at the first new best that is strictly above the
+// speculative distance.
 pub fn compute_separating_axis(
     numbers_a: &[f32],
     links_a: &[u8],
@@ -220,7 +225,8 @@ pub fn compute_separating_axis(
     wanted: Wanted,
 ) -> Search
     requires { ⌜ Accepted «size_a» (now «numbers_a») (now «links_a») × Accepted «size_b» (now «numbers_b») (now «links_b») × Placed transform ⌝ }
-    ensures { λ r. ⌜ r ≡ searchOf «size_a» (now («numbers_a» .entry)) (now («links_a» .entry)) «size_b» (now («numbers_b» .entry)) (now («links_b» .entry)) transform early wanted ⌝ }
+    ensures { λ r. ⌜ r ≡ searchOf «size_a» (now («numbers_a» .entry)) (now («links_a» .entry)) «size_b» (now («numbers_b» .entry))
+        (now («links_b» .entry)) transform early wanted ⌝ }
 {
     let r = rotation::make_matrix_from_quat(transform.q);
     let a = side_a(

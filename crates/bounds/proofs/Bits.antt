@@ -31,7 +31,8 @@ pub pattern-nan : (n : ℕ) → 2139095040 < n % 2147483648 → ofBits binary32 
 pattern-nan n h = is-nan (ofBits binary32 n) (subst T (sym (nanBits-above binary32 n) ∙ nanBits-is binary32 n) (lt→ltb 2139095040 (n % 2147483648) h))
 
 pub pattern-ok : (n : ℕ) → n % 2147483648 ≤ 2139095040 → T (not (nanBits binary32 n))
-pattern-ok n h = subst (λ (b : Bool). T (not b)) (sym (nanBits-above binary32 n)) (not-T (ltb 2139095040 (n % 2147483648)) (λ t. clash (n % 2147483648) h (ltb→lt 2139095040 (n % 2147483648) t)))
+pattern-ok n h = subst (λ (b : Bool). T (not b)) (sym (nanBits-above binary32 n))
+    (not-T (ltb 2139095040 (n % 2147483648)) (λ t. clash (n % 2147483648) h (ltb→lt 2139095040 (n % 2147483648) t)))
   where
     clash : (r : ℕ) → r ≤ 2139095040 → 2139095040 < r → ⊥
     clash r a b = omega arith
@@ -72,7 +73,8 @@ finite-bits v F h =
     let b = toBits binary32 v in
     let back : ofBits binary32 b ≡ v = ofBits-toBits binary32 v F in
     let le : b % 2147483648 ≤ 2139095040 = no-nan-bits b (subst (λ (t : Bool). T (not t)) (sym (nanBits-is binary32 b ∙ ap isNan back)) (no-nan v h)) in
-    let not-inf : (q : ℕ) (s : Bool) → b ≡ q → ofBits binary32 q ≡ inf s → ⊥ = λ q s e i. subst (λ (x : Float). T (finite x)) (sym back ∙ ap (ofBits binary32) e ∙ i) h in
+    let not-inf : (q : ℕ) (s : Bool) → b ≡ q → ofBits binary32 q ≡ inf s → ⊥ =
+    λ q s e i. subst (λ (x : Float). T (finite x)) (sym back ∙ ap (ofBits binary32) e ∙ i) h in
     ⊎-elim
     (λ e. absurd (⊎-elim (λ q. not-inf 2139095040 false q pos-inf) (λ q. not-inf 4286578688 true q neg-inf) (either-sign b (toBits-lt binary32 v F) e)))
     (λ l. l)
@@ -93,5 +95,6 @@ bits-finite n N h = go (ofBits binary32 n) refl
 
     go : (w : Float) → ofBits binary32 n ≡ w → T (finite w)
     go nan e = absurd (subst (λ (x : Float). T (not (isNan x))) e ok)
-    go (inf s) e = absurd (clash (n % 2147483648) h (ap (λ (x : ℕ). x % 2147483648) (sym (toBits-ofBits binary32 n N ok) ∙ ap (toBits binary32) e) ∙ bits-inf s))
+    go (inf s) e = absurd (clash (n % 2147483648) h (ap (λ (x : ℕ). x % 2147483648) (sym (toBits-ofBits binary32 n N ok) ∙ ap (toBits binary32) e)
+        ∙ bits-inf s))
     go (fin s m d) e = tt

@@ -2,13 +2,16 @@
 -- It rests on one fact, `round-within`: rounding does not pass a power of two. Assumes nothing.
 use mathlib.Core.Path.{_≡_, sym, ap, _∙_, subst}
 use Prim.Native.Nat.{ℕ, suc, _+_, _-_, _*_, _/_, _%_, _^_, _≤_, _<_, max, compare}
-use native.Mathlib.Nat.{le-trans, le-of-eq, le-of-lt, lt-of-le-of-lt, lt-suc-self, le-max-left, le-max-right, sub-le, zero-lt-suc, add-le-add, two-pow-succ, add-mul, mul-one, mul-comm, mul-assoc, mul-right-comm, mul-mul-mul-comm, mul-le-mul, mul-le-mul-right, le-of-mul-le-mul-right, mul-pos, div-one, mod-one, div-lt-iff-lt-mul, mul-lt-mul-of-pos-right}
+use native.Mathlib.Nat.{le-trans, le-of-eq, le-of-lt, lt-of-le-of-lt, lt-suc-self, le-max-left, le-max-right, sub-le, zero-lt-suc, add-le-add}
+use native.Mathlib.Nat.{two-pow-succ, add-mul, mul-one, mul-comm, mul-assoc, mul-right-comm, mul-mul-mul-comm, mul-le-mul, mul-le-mul-right}
+use native.Mathlib.Nat.{le-of-mul-le-mul-right, mul-pos, div-one, mod-one, div-lt-iff-lt-mul, mul-lt-mul-of-pos-right}
 use native.Mathlib.Omega.{arith}
 use mathlib.Core.Logic.{_⊎_, inl, inr, ⊎-elim}
 use mathlib.Core.Bool.{Bool, true, false, not, _&&_, _||_, Bool·beq, cond}
 use lib.Dec.{T, leb, ltb, eqb, leb→le, le→leb, ltb→lt, eqb→eq}
 use lib.Pow.{pow-add, pow-pos, pow-mono, pow-lt}
-use lib.Ieee.{Float, nan, inf, fin, Format, binary32, prec, emax, low, up, down, unlike, size, nearest, round, neg, sum, add, sub, mul, below, level, le, isNan, ofBits}
+use lib.Ieee.{Float, nan, inf, fin, Format, binary32, prec, emax, low, up, down, unlike, size, nearest, round, neg, sum, add, sub, mul, below, level}
+use lib.Ieee.{le, isNan, ofBits}
 use lib.Ieee.Digits.{size-le, back}
 use lib.Ieee.Fits.{round-is, two, two-le-pos, down-pos, and-l}
 use lib.Ieee.Exact.{HasValue, units-val}
@@ -36,7 +39,8 @@ grid-le f a c K C h =
     let d = drop (prec f) n c in
     let dK : d ≤ K = spare (size (n / c)) (prec f) K (two-le-pos (prec f) (two f)) (size-le (n / c) (suc K) (whole-lt n c K C h)) in
     let e : 2 ^ (K - d) * 2 ^ d ≡ 2 ^ K = sym (pow-add 2 (K - d) d) ∙ ap (λ (x : ℕ). 2 ^ x) (back K d dK) in
-    let q : n ≤ 2 ^ (K - d) * (c * 2 ^ d) = le-trans h (le-of-eq (ap (λ (x : ℕ). x * c) (sym e) ∙ mul-right-comm (2 ^ (K - d)) (2 ^ d) c ∙ mul-assoc (2 ^ (K - d)) c (2 ^ d))) in
+    let q : n ≤ 2 ^ (K - d) * (c * 2 ^ d) =
+    le-trans h (le-of-eq (ap (λ (x : ℕ). x * c) (sym e) ∙ mul-right-comm (2 ^ (K - d)) (2 ^ d) c ∙ mul-assoc (2 ^ (K - d)) c (2 ^ d))) in
     le-trans (mul-le-mul-right (2 ^ d) (closest-le n (c * 2 ^ d) (2 ^ (K - d)) (mul-pos C (pow-pos d)) q)) (le-of-eq e)
 
 -- the kit's `round-val`, with either sign
@@ -58,7 +62,9 @@ top-lt k l e h = omega arith
 pub round-within : (f : Format) (s : Bool) (a c k : ℕ) → k ≤ emax f → 0 < c → a ≤ 2 ^ k * c → T (within k (round f s a c))
 round-within f s a c k E C h =
     let l = low f in
-    let g : grid f a c ≤ 2 ^ (k + l) = grid-le f a c (k + l) C (le-trans (mul-le-mul-right (2 ^ l) h) (le-of-eq (mul-right-comm (2 ^ k) c (2 ^ l) ∙ ap (λ (x : ℕ). x * c) (sym (pow-add 2 k l))))) in
+    let g : grid f a c ≤ 2 ^ (k + l) =
+    grid-le f a c (k + l) C (le-trans (mul-le-mul-right (2 ^ l) h)
+    (le-of-eq (mul-right-comm (2 ^ k) c (2 ^ l) ∙ ap (λ (x : ℕ). x * c) (sym (pow-add 2 k l))))) in
     within-of-value k (round f s a c) s (grid f a c) (2 ^ l) (pow-pos l)
     (round-value f s a c (lt-of-le-of-lt g (pow-lt (top-lt k l (emax f) E))))
     (le-trans g (le-of-eq (pow-add 2 k l)))
@@ -69,10 +75,12 @@ picked P true p q = p
 picked P false p q = q
 
 -- ---- the operations on `within`
-sum-within : (f : Format) (s : Bool) (a : ℕ) (t : Bool) (b c k : ℕ) → suc k ≤ emax f → 0 < c → a ≤ 2 ^ k * c → b ≤ 2 ^ k * c → T (within (suc k) (sum f s a t b c))
+sum-within : (f : Format) (s : Bool) (a : ℕ) (t : Bool) (b c k : ℕ) → suc k ≤ emax f → 0 < c → a ≤ 2 ^ k * c → b ≤ 2 ^ k * c
+    → T (within (suc k) (sum f s a t b c))
 unfolding sum
 sum-within f s a t b c k E C p q =
-    let both : a + b ≤ 2 ^ suc k * c = le-trans (add-le-add p q) (le-of-eq (sym (add-mul (2 ^ k) (2 ^ k) c) ∙ ap (λ (x : ℕ). x * c) (sym (two-pow-succ k)))) in
+    let both : a + b ≤ 2 ^ suc k * c =
+    le-trans (add-le-add p q) (le-of-eq (sym (add-mul (2 ^ k) (2 ^ k) c) ∙ ap (λ (x : ℕ). x * c) (sym (two-pow-succ k)))) in
     let one : 2 ^ k * c ≤ 2 ^ suc k * c = mul-le-mul-right c (pow-mono (le-suc-self k)) in
     let bounded : Float → Type 0 = λ x. T (within (suc k) x) in
     picked bounded (Bool·beq s t)
@@ -96,7 +104,8 @@ add-within f j k (fin s m e) (inf t) E p q = absurd q
 add-within f j k (fin s m e) (fin t n d) E p q =
     sum-within f s (m * up e * down d) t (n * up d * down e) (down e * down d) (max j k) E (mul-pos (down-pos e) (down-pos d))
     (scaled j (max j k) (m * up e) (down e) (down d) (le-max-left j k) (leb→le (m * up e) (2 ^ j * down e) p))
-    (le-trans (scaled k (max j k) (n * up d) (down d) (down e) (le-max-right j k) (leb→le (n * up d) (2 ^ k * down d) q)) (le-of-eq (ap (λ (z : ℕ). 2 ^ max j k * z) (mul-comm (down d) (down e)))))
+    (le-trans (scaled k (max j k) (n * up d) (down d) (down e) (le-max-right j k) (leb→le (n * up d) (2 ^ k * down d) q))
+    (le-of-eq (ap (λ (z : ℕ). 2 ^ max j k * z) (mul-comm (down d) (down e)))))
 
 mul-within : (f : Format) (j k : ℕ) (x y : Float) → j + k ≤ emax f → T (within j x) → T (within k y) → T (within (j + k) (mul f x y))
 unfolding mul
@@ -118,7 +127,8 @@ neg-within k (fin s m e) p = p
 more-within : (j k : ℕ) (x : Float) → j ≤ k → T (within j x) → T (within k x)
 more-within j k nan h p = absurd p
 more-within j k (inf s) h p = absurd p
-more-within j k (fin s m e) h p = le→leb (m * up e) (2 ^ k * down e) (le-trans (leb→le (m * up e) (2 ^ j * down e) p) (mul-le-mul-right (down e) (pow-mono h)))
+more-within j k (fin s m e) h p =
+    le→leb (m * up e) (2 ^ k * down e) (le-trans (leb→le (m * up e) (2 ^ j * down e) p) (mul-le-mul-right (down e) (pow-mono h)))
 
 -- ---- the laws, at binary32. Where k is a numeral, `tt` shows that it is at most 127
 pub constant : (k : ℕ) {x : Float} → T (within k x) → Below k x
@@ -132,7 +142,8 @@ added {j} {k} {x} {y} t p q = record { holds = add-within binary32 j k x y (leb�
 
 -- at one bound for both, where k need not be a numeral
 pub summed : {k : ℕ} {x y : Float} → T (leb (suc k) 127) → Below k x → Below k y → Below (suc k) (add binary32 x y)
-summed {k} {x} {y} t p q = subst (λ (z : ℕ). Below (suc z) (add binary32 x y)) (max-self k) (added (subst (λ (z : ℕ). T (leb (suc z) 127)) (sym (max-self k)) t) p q)
+summed {k} {x} {y} t p q = subst (λ (z : ℕ). Below (suc z) (add binary32 x y)) (max-self k)
+    (added (subst (λ (z : ℕ). T (leb (suc z) 127)) (sym (max-self k)) t) p q)
   where
     max-self : (k : ℕ) → max k k ≡ k
     max-self k = omega arith
@@ -173,9 +184,11 @@ between-within k (fin u i a) (fin t n d) nan p q l h = absurd l
 between-within k (fin u i a) (fin t n d) (inf true) p q l h = absurd l
 between-within k (fin u i a) (fin t n d) (inf false) p q l h = absurd h
 between-within k (fin u i a) (fin t n d) (fin false m e) p q l h =
-    le→leb (m * up e) (2 ^ k * down e) (carried k (m * up e) (down e) (n * up d) (down d) (down-pos d) (pos-le t (m * up e * down d) (n * up d * down e) h) (leb→le (n * up d) (2 ^ k * down d) q))
+    le→leb (m * up e) (2 ^ k * down e) (carried k (m * up e) (down e) (n * up d) (down d) (down-pos d)
+    (pos-le t (m * up e * down d) (n * up d * down e) h) (leb→le (n * up d) (2 ^ k * down d) q))
 between-within k (fin u i a) (fin t n d) (fin true m e) p q l h =
-    le→leb (m * up e) (2 ^ k * down e) (carried k (m * up e) (down e) (i * up a) (down a) (down-pos a) (neg-le u (i * up a * down e) (m * up e * down a) l) (leb→le (i * up a) (2 ^ k * down a) p))
+    le→leb (m * up e) (2 ^ k * down e) (carried k (m * up e) (down e) (i * up a) (down a) (down-pos a)
+    (neg-le u (i * up a * down e) (m * up e * down a) l) (leb→le (i * up a) (2 ^ k * down a) p))
 
 pub between : {k : ℕ} {lo hi x : Float} → Below k lo → Below k hi → T (le lo x) → T (le x hi) → Below k x
 between {k} {lo} {hi} {x} p q l h = record { holds = between-within k lo hi x (p .holds) (q .holds) l h }
@@ -202,7 +215,8 @@ less k b t = le→leb k b (le-of-lt (leb→le (suc k) b t))
 one-more : (k : ℕ) → T (leb k (suc k))
 one-more k = le→leb k (suc k) (le-of-lt (lt-suc-self k))
 
-module _ {j k : ℕ} {a b c x y z : Float} (t : T (leb (suc (suc (j + k))) 127)) (pa : Below j a) (pb : Below j b) (pc : Below j c) (px : Below k x) (py : Below k y) (pz : Below k z) where
+module _ {j k : ℕ} {a b c x y z : Float} (t : T (leb (suc (suc (j + k))) 127)) (pa : Below j a) (pb : Below j b) (pc : Below j c)
+    (px : Below k x) (py : Below k y) (pz : Below k z) where
   pub dot3 : Below (suc (suc (j + k))) (add binary32 (add binary32 (mul binary32 a x) (mul binary32 b y)) (mul binary32 c z))
   dot3 =
       let t₁ = less (suc (j + k)) 127 t in

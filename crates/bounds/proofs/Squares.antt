@@ -1,9 +1,10 @@
--- Unit normals and quaternions: where a rounded sum of squares is at most a number below 4, each number is finite and at most 2 in size.
--- The way: a number above 2, an infinity or a NaN has a `high` square; `high` goes up through sums of what is not negative; and what is high passes no such test.
--- `Low k x` says that x is no NaN, and is negative or below 2 ^ k. Assumes nothing.
+-- Unit normals and quaternions: where a rounded sum of squares is at most a number below 4, each number is finite and at most 2 in size. The way: a
+-- number above 2, an infinity or a NaN has a `high` square; `high` goes up through sums of what is not negative; and what is high passes no such
+-- test. `Low k x` says that x is no NaN, and is negative or below 2 ^ k. Assumes nothing.
 use mathlib.Core.Path.{_≡_, refl, sym, ap, _∙_, subst}
 use Prim.Native.Nat.{ℕ, zero, suc, _+_, _*_, _^_, _≤_, _<_}
-use native.Mathlib.Nat.{le-trans, le-of-eq, le-of-lt, lt-of-le-of-lt, lt-irrefl, zero-lt-suc, le-add-right, add-comm, mul-one, one-mul, mul-comm, mul-assoc, mul-right-comm, mul-mul-mul-comm, mul-le-mul, mul-le-mul-right, mul-lt-mul-of-pos-right, mul-pos}
+use native.Mathlib.Nat.{le-trans, le-of-eq, le-of-lt, lt-of-le-of-lt, lt-irrefl, zero-lt-suc, le-add-right, add-comm, mul-one, one-mul, mul-comm}
+use native.Mathlib.Nat.{mul-assoc, mul-right-comm, mul-mul-mul-comm, mul-le-mul, mul-le-mul-right, mul-lt-mul-of-pos-right, mul-pos}
 use mathlib.Core.Bool.{Bool, true, false, not}
 use lib.IntN.{ℤ}
 use lib.Dec.{T, leb, ltb, leb→le, le→leb, ltb→lt, nleb→lt, not-T, T-not, lit<}
@@ -47,7 +48,8 @@ unfolding units
 units-plus f q k = picked (λ (x : Float). T (plus x)) (ltb (q * 2 ^ k) (2 ^ (low f + suc (emax f)))) (odd-plus (suc (prec f)) q k (low f)) tt
 
 round-plus : (f : Format) (a c : ℕ) → T (plus (round f false a c))
-round-plus f a c = subst (λ (z : Float). T (plus z)) (sym (round-is f false a c)) (units-plus f (kept (prec f) (a * 2 ^ low f) c) (drop (prec f) (a * 2 ^ low f) c))
+round-plus f a c = subst (λ (z : Float). T (plus z)) (sym (round-is f false a c))
+    (units-plus f (kept (prec f) (a * 2 ^ low f) c) (drop (prec f) (a * 2 ^ low f) c))
 
 one-lt : (f : Format) → 1 < 2 ^ prec f
 one-lt f = pow-lt (two-lt f)
@@ -69,7 +71,9 @@ high-of-le k lo z v h = go z (above-of-le lo z (positive-of-value lo (2 ^ k) 1 v
     go nan a h = tt
     go (inf s) a h = a
     go (fin true n d) a h = absurd a
-    go (fin false n d) a h = le→leb (2 ^ k * down d) (n * up d) (le-trans (values-of-le lo (fin false n d) (2 ^ k) 1 (n * up d) (down d) (positive-of-value lo (2 ^ k) 1 v (pow-pos k)) a v (refl, refl) h) (le-of-eq (mul-one (n * up d))))
+    go (fin false n d) a h = le→leb (2 ^ k * down d) (n * up d)
+        (le-trans (values-of-le lo (fin false n d) (2 ^ k) 1 (n * up d) (down d) (positive-of-value lo (2 ^ k) 1 v (pow-pos k)) a v (refl, refl) h)
+        (le-of-eq (mul-one (n * up d))))
 
 round-high : (f : Format) (a c k : ℕ) → k ≤ emax f → 0 < c → 2 ^ k * c ≤ a → T (high k (round f false a c))
 round-high f a c k E C h =
@@ -137,7 +141,8 @@ square-plus f (inf false) = tt
 square-plus f (fin true m e) = round-plus f (m * up e * (m * up e)) (down e * down e)
 square-plus f (fin false m e) = round-plus f (m * up e * (m * up e)) (down e * down e)
 
-square-round : (f : Format) (j m : ℕ) (e : ℤ) → j + j ≤ emax f → T (not (leb (m * up e) (2 ^ j * down e))) → T (high (j + j) (round f false (m * up e * (m * up e)) (down e * down e)))
+square-round : (f : Format) (j m : ℕ) (e : ℤ) → j + j ≤ emax f → T (not (leb (m * up e) (2 ^ j * down e)))
+    → T (high (j + j) (round f false (m * up e * (m * up e)) (down e * down e)))
 square-round f j m e E n =
     let l : 2 ^ j * down e ≤ m * up e = le-of-lt (nleb→lt (m * up e) (2 ^ j * down e) n) in
     round-high f (m * up e * (m * up e)) (down e * down e) (j + j) E (mul-pos (down-pos e) (down-pos e))
@@ -172,7 +177,8 @@ high-not-le k (inf true) (fin t n d) u h p = absurd p
 high-not-le k (inf false) (fin t n d) u h p = absurd h
 high-not-le k (fin true m e) (fin t n d) u h p = absurd p
 high-not-le k (fin false m e) (fin t n d) u h p =
-    clash k (m * up e) (down e) (n * up d) (down d) (down-pos e) (leb→le (2 ^ k * down e) (m * up e) p) (pos-le t (m * up e * down d) (n * up d * down e) h) (ltb→lt (n * up d) (2 ^ k * down d) u)
+    clash k (m * up e) (down e) (n * up d) (down d) (down-pos e) (leb→le (2 ^ k * down e) (m * up e) p)
+    (pos-le t (m * up e * down d) (n * up d * down e) h) (ltb→lt (n * up d) (2 ^ k * down d) u)
 
 -- ---- the laws, at binary32
 pub at-most : {k : ℕ} {x : Float} (c : Float) → T (under k c) → T (le x c) → Low k x
@@ -185,13 +191,19 @@ pub plus-add : {x y : Float} → Plus x → Plus y → Plus (add binary32 x y)
 plus-add {x} {y} p q = record { holds = add-plus binary32 x y (p .holds) (q .holds) }
 
 pub left : {k : ℕ} {x y : Float} → T (leb k 127) → Plus y → Low k (add binary32 x y) → Low k x
-left {k} {x} {y} t q l = record { holds = not-T (high k x) (λ h. T-not (high k (add binary32 x y)) (l .holds) (add-high-left binary32 k x y (leb→le k 127 t) h (q .holds))) }
+left {k} {x} {y} t q l = record {
+  holds = not-T (high k x) (λ h. T-not (high k (add binary32 x y)) (l .holds)
+      (add-high-left binary32 k x y (leb→le k 127 t) h (q .holds)));
+}
 
 pub right : {k : ℕ} {x y : Float} → T (leb k 127) → Plus x → Plus y → Low k (add binary32 x y) → Low k y
 right {k} {x} {y} t p q l = left t p (subst (Low k) (add-turns binary32 x y (p .holds) (q .holds)) l)
 
 pub root : (j : ℕ) {x : Float} → T (leb (j + j) 127) → Low (j + j) (mul binary32 x x) → Below j x
-root j {x} t l = record { holds = go (within j x) (λ n. T-not (high (j + j) (mul binary32 x x)) (l .holds) (square-high binary32 j x (leb→le (j + j) 127 t) n)) }
+root j {x} t l = record {
+  holds = go (within j x) (λ n. T-not (high (j + j) (mul binary32 x x)) (l .holds)
+      (square-high binary32 j x (leb→le (j + j) 127 t) n));
+}
   where
     go : (b : Bool) → (T (not b) → ⊥) → T b
     go true n = tt

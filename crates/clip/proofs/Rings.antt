@@ -16,19 +16,19 @@ use Rattle.vector.specs.declared.Transform.{Transform}
 use Rattle.manifold.specs.declared.ClipVertex.{ClipVertex}
 use Rattle.manifold.proofs.Polygons.{first-most}
 use Rattle.rotation.specs.Rotation.{Rows, matrixOf}
-use Rattle.links.specs.declared.HullSize.{HullSize}
-use Rattle.links.specs.Walks.{ring}
-use Rattle.links.specs.Links.{next, faceEdge, faceRing}
-use Rattle.links.proofs.Orbits.{ring-some}
-use Rattle.links.proofs.Along.{Along, along, rest, ring-rest, no-more, goes-along, rest-more, rest-shorter}
+use Rattle.hull_links.specs.declared.HullSize.{HullSize}
+use Rattle.hull_links.specs.Walks.{ring}
+use Rattle.hull_links.specs.Links.{next, faceEdge, faceRing}
+use Rattle.hull_links.proofs.Orbits.{ring-some}
+use Rattle.hull_links.proofs.Along.{Along, along, rest, ring-rest, no-more, goes-along, rest-more, rest-shorter}
 use Rattle.hull.specs.Numbers.{planeAt}
 use Rattle.hull.specs.Accepted.{Accepted}
-use Rattle.corners.specs.declared.Clipped.{Clipped}
-use Rattle.cut.specs.Cut.{cutOf}
-use Rattle.corners.specs.Places.{Roomy, SideBySide, cornersIn, packedOf, Laid}
-use Rattle.corners.specs.Results.{clippedOf}
-use Rattle.corners.proofs.Laying.{lays-none, lays-on, still-roomy}
-use Rattle.corners.proofs.Reading.{all-counted, all-back, packed-is}
+use Rattle.clip_corners.specs.declared.Clipped.{Clipped}
+use Rattle.clip_cut.specs.Cut.{cutOf}
+use Rattle.clip_corners.specs.Places.{Roomy, SideBySide, cornersIn, packedOf, Laid}
+use Rattle.clip_corners.specs.Results.{clippedOf}
+use Rattle.clip_corners.proofs.Laying.{lays-none, lays-on, still-roomy}
+use Rattle.clip_corners.proofs.Reading.{all-counted, all-back, packed-is}
 use Rattle.clip.specs.Candidates.{cornerOf, builtOf, sidePlaneOf, cutOn, goesOn, cutRound}
 
 -- the half-edges behind e, on the way round the face whose ring begins at start
@@ -36,7 +36,8 @@ abbrev pub leftOf : HullSize → List ℕ → ℕ → ℕ → List ℕ
 leftOf s l start e = rest (next s l) (s .«half_edges») start e
 
 -- a polygon is built of the corners f: k of them are laid, and the loop is at half-edge e
-pub record Building (s : HullSize) (l : List ℕ) (start : ℕ) (f : ℕ → ClipVertex) (n₀ : List Float) (t₀ : List ℕ) (n : List Float) (t : List ℕ) (e k : ℕ) : Type 0 where
+pub record Building (s : HullSize) (l : List ℕ) (start : ℕ) (f : ℕ → ClipVertex) (n₀ : List Float) (t₀ : List ℕ) (n : List Float) (t : List ℕ)
+    (e k : ℕ) : Type 0 where
   pub here : Along (next s l) (s .«half_edges») start e
   pub room : k < 64
   pub done : List ClipVertex
@@ -44,7 +45,8 @@ pub record Building (s : HullSize) (l : List ℕ) (start : ℕ) (f : ℕ → Cli
   pub whole : done ++ map f (take (64 - k) (e ∷ leftOf s l start e)) ≡ map f (take 64 (start ∷ leftOf s l start start))
 
 -- a polygon is cut: m corners from corner p on are left of it, the loop is at half-edge e, and all cuts will leave `all`
-pub record Round (s : HullSize) (n : List Float) (l : List ℕ) (face start : ℕ) (all : List ClipVertex) (places : List Float) (tags : List ℕ) (p m e : ℕ) : Type 0 where
+pub record Round (s : HullSize) (n : List Float) (l : List ℕ) (face start : ℕ) (all : List ClipVertex) (places : List Float) (tags : List ℕ)
+    (p m e : ℕ) : Type 0 where
   pub here : Along (next s l) (s .«half_edges») start e
   pub room : Roomy places tags
   pub half : (p ≡ 0) ⊎ (p ≡ 64)
@@ -105,19 +107,22 @@ module _ (s : HullSize) (n : List Float) (l : List ℕ) (t : Transform) (referen
       }
 
   -- what is left of it, with the reference face by its name
-  pub left-of-built : (s′ : HullSize) (n′ : List Float) (l′ es : List ℕ) (f m : ℕ) (places : List Float) (tags : List ℕ) → Begun places tags m (builtOf s n l t reference face) → reference ≡ planeAt s′ n′ f
+  pub left-of-built : (s′ : HullSize) (n′ : List Float) (l′ es : List ℕ) (f m : ℕ) (places : List Float) (tags : List ℕ)
+      → Begun places tags m (builtOf s n l t reference face) → reference ≡ planeAt s′ n′ f
       → clippedOf (cutRound s′ n′ l′ f es (cornersIn places tags 0 m)) ≡ clippedOf (cutRound s′ n′ l′ f es (builtOf s n l t (planeAt s′ n′ f) face))
   left-of-built s′ n′ l′ es f m places tags b p =
       ap (λ (z : List ClipVertex). clippedOf (cutRound s′ n′ l′ f es z)) (b .are ∙ ap (λ (z : Plane). builtOf s n l t z face) p)
 
 -- the corners are carried by the matrix of the transform
-pub built-is : (s : HullSize) (n : List Float) (l : List ℕ) (t : Transform) (reference : Plane) (face : ℕ) (matrix : Rows) (n₀ : List Float) (t₀ : List ℕ) (n′ : List Float) (t′ : List ℕ) (k : ℕ)
+pub built-is : (s : HullSize) (n : List Float) (l : List ℕ) (t : Transform) (reference : Plane) (face : ℕ) (matrix : Rows) (n₀ : List Float)
+    (t₀ : List ℕ) (n′ : List Float) (t′ : List ℕ) (k : ℕ)
     → matrix ≡ matrixOf (t .q) → Laid n₀ t₀ 0 0 (map (cornerOf s n l matrix (t .p) reference) (take 64 (faceRing s l face))) n′ t′ k
     → Laid n₀ t₀ 0 0 (builtOf s n l t reference face) n′ t′ k
 unfolding builtOf
 built-is s n l t reference face matrix n₀ t₀ n′ t′ k h x = rw (← h) x
 
-module _ (s : HullSize) (n : List Float) (l : List ℕ) (ok : Accepted s n l) (face : ℕ) (face-in : face < s .faces) (start : ℕ) (q : start ≡ faceEdge s l face) where
+module _ (s : HullSize) (n : List Float) (l : List ℕ) (ok : Accepted s n l) (face : ℕ) (face-in : face < s .faces) (start : ℕ)
+    (q : start ≡ faceEdge s l face) where
   -- the ring sets out from the stored edge
   face-along : Along (next s l) (s .«half_edges») start start
   face-along =
@@ -132,7 +137,8 @@ module _ (s : HullSize) (n : List Float) (l : List ℕ) (ok : Accepted s n l) (f
     pub build-begins : Building s l start f n₀ t₀ n₀ t₀ start 0
     build-begins = record { here = face-along; room = omega arith; done = []; stored = lays-none n₀ t₀ 0 0; whole = refl }
 
-    module _ (places : List Float) (tags : List ℕ) (e k : ℕ) (b : Building s l start f n₀ t₀ places tags e k) (v : ClipVertex) (p : v ≡ f e) (places′ : List Float) (tags′ : List ℕ) (k′ : ℕ)
+    module _ (places : List Float) (tags : List ℕ) (e k : ℕ) (b : Building s l start f n₀ t₀ places tags e k) (v : ClipVertex) (p : v ≡ f e)
+        (places′ : List Float) (tags′ : List ℕ) (k′ : ℕ)
         (x : Laid places tags 0 k (v ∷ []) places′ tags′ k′) (t : ℕ) (w : t ≡ next s l e) where
       abbrev more : List ClipVertex
       more = b .done ++ (v ∷ [])
@@ -164,7 +170,8 @@ module _ (s : HullSize) (n : List Float) (l : List ℕ) (ok : Accepted s n l) (f
 
       ends : [] ≡ take (63 - k) (leftOf s l start e) → Laid n₀ t₀ 0 0 (map f (take 64 (faceRing s l face))) places′ tags′ k′
       ends r =
-          let all : more ≡ map f (take 64 (faceRing s l face)) = sym (append-nil more) ∙ more-whole [] r ∙ ap (λ (es : List ℕ). map f (take 64 es)) face-ring in
+          let all : more ≡ map f (take 64 (faceRing s l face)) = sym (append-nil more) ∙ more-whole [] r
+          ∙ ap (λ (es : List ℕ). map f (take 64 es)) face-ring in
           subst (λ (z : List ClipVertex). Laid n₀ t₀ 0 0 z places′ tags′ k′) all more-stored
 
       -- back at the start, or the 64th corner
@@ -187,7 +194,8 @@ module _ (s : HullSize) (n : List Float) (l : List ℕ) (ok : Accepted s n l) (f
     whole = ap (λ (es : List ℕ). cutRound s n l face es (cornersIn places tags 0 m)) face-ring;
   }
 
-  module _ (all : List ClipVertex) (places : List Float) (tags : List ℕ) (p m e : ℕ) (r : Round s n l face start all places tags p m e) (reference plane : Plane) (is : reference ≡ planeAt s n face)
+  module _ (all : List ClipVertex) (places : List Float) (tags : List ℕ) (p m e : ℕ) (r : Round s n l face start all places tags p m e)
+      (reference plane : Plane) (is : reference ≡ planeAt s n face)
       (side : plane ≡ sidePlaneOf s n l (reference .normal) e) (places′ : List Float) (tags′ : List ℕ) (m′ : ℕ)
       (x : Laid places tags (64 - p) 0 (cutOf plane e reference (cornersIn places tags p m)) places′ tags′ m′) where
     abbrev this : List ClipVertex

@@ -14,11 +14,11 @@ use Rattle.rotation.specs.Rotation.{Rows, matrixOf, mulMvOf, invRotateOf}
 use Rattle.manifold.specs.declared.ClipVertex.{ClipVertex}
 use Rattle.manifold.specs.declared.pairs.FeatureOwner.{FeatureOwner}
 use Rattle.manifold.specs.Pairs.{pairOf}
-use Rattle.links.specs.declared.HullSize.{HullSize}
-use Rattle.links.specs.Links.{next, origin, faceRing}
+use Rattle.hull_links.specs.declared.HullSize.{HullSize}
+use Rattle.hull_links.specs.Links.{next, origin, faceRing}
 use Rattle.hull.specs.Numbers.{vertexAt, planeAt}
-use Rattle.cut.specs.Cut.{cutOf}
-use Rattle.incident.specs.Incident.{incidentFaceOf}
+use Rattle.clip_cut.specs.Cut.{cutOf}
+use Rattle.clip_incident.specs.Incident.{incidentFaceOf}
 
 -- ---- the incident face as a polygon
 -- a corner of the other hull at this place, tagged with these half-edges of it
@@ -55,8 +55,8 @@ cutRound s n l f [] vs = vs
 cutRound s n l f (e ∷ es) vs = cond (goesOn (cutOn s n l f e vs)) (cutRound s n l f es (cutOn s n l f e vs)) (cutOn s n l f e vs)
 
 -- ---- the candidates
--- of face f of hull A and the vertex v of hull B, t carrying B into A's frame: the incident face at v, cut round f. More than 64 is refusal 6, and fewer than 3 do not
--- touch.
+-- of face f of hull A and the vertex v of hull B, t carrying B into A's frame: the incident face at v, cut round f. More than 64 is refusal 6, and
+-- fewer than 3 do not touch.
 unfoldable pub candidatesOf : HullSize → List Float → List ℕ → HullSize → List Float → List ℕ → Transform → ℕ → ℕ → List ClipVertex
 candidatesOf sA nA lA sB nB lB t f v =
     let reference = planeAt sA nA f in

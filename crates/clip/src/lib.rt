@@ -1,19 +1,19 @@
-// The candidates of a face contact, from clip.rs and hulls.rs: the face of hull B that lies flattest against a face of hull A, as a polygon in A's frame, cut by the
-// sides of A's face one after the other. What the candidates are, as a list, is in specs/Candidates.antt.
+// The candidates of a face contact, from clip.rs and hulls.rs: the face of hull B that lies flattest against a face of hull A, as a polygon in A's
+// frame, cut by the sides of A's face one after the other. What the candidates are, as a list, is in specs/Candidates.antt.
 ghost use mathlib.Core.Path.{_≡_};
 ghost use Prim.Native.Nat.{_<_};
 ghost use Rattle.rotation.specs.Rotation.{Rows};
-ghost use Rattle.links.specs.Links.{faceRing};
+ghost use Rattle.hull_links.specs.Links.{faceRing};
 ghost use Rattle.hull.specs.Numbers.{planeAt};
 ghost use Rattle.hull.specs.Accepted.{Accepted};
-ghost use Rattle.corners.specs.Places.{Roomy, Laid};
-ghost use Rattle.corners.specs.Results.{clippedOf};
+ghost use Rattle.clip_corners.specs.Places.{Roomy, Laid};
+ghost use Rattle.clip_corners.specs.Results.{clippedOf};
 ghost use Rattle.clip.specs.Candidates.{cornerOf, builtOf, sidePlaneOf, cutRound, candidatesOf};
-use corners::Clipped;
-use corners::packed;
-use corners::put;
-use incident::find_incident_face;
-use links::HullSize;
+use clip_corners::Clipped;
+use clip_corners::packed;
+use clip_corners::put;
+use clip_incident::find_incident_face;
+use hull_links::HullSize;
 use manifold::ClipVertex;
 use manifold::pairs::FeatureOwner;
 use manifold::pairs::make_feature_pair;
@@ -40,8 +40,8 @@ fn corner(
     requires { ⌜ Accepted size (now numbers) (now links) × (e < size .«half_edges») ⌝ }
     ensures { λ r. ⌜ r ≡ cornerOf size (now (numbers .entry)) (now (links .entry)) matrix p reference e ⌝ }
 {
-    let ahead = links::next_of(links, size, e);
-    let end = links::origin_of(links, size, ahead);
+    let ahead = hull_links::next_of(links, size, e);
+    let end = hull_links::origin_of(links, size, ahead);
     let position = add(
         rotation::mul_mv(matrix, hull::vertex_at(numbers, size, end)),
         p,
@@ -58,8 +58,8 @@ fn corner(
     }
 }
 
-// A face as a polygon in the other frame, from its stored edge, in lent lists from corner 0 on; the return says how many corners it has. A ring longer than 64 is
-// read to 64.
+// A face as a polygon in the other frame, from its stored edge, in lent lists from corner 0 on; the return says how many corners it has. A ring
+// longer than 64 is read to 64.
 pub fn build_polygon(
     numbers: &[f32],
     links: &[u8],
@@ -71,17 +71,18 @@ pub fn build_polygon(
     tags: &mut [u8],
 ) -> usize
     requires { ⌜ Accepted size (now numbers) (now links) × (face < size .faces) × Roomy (now places) (now tags) ⌝ }
-    ensures { λ r. ⌜ Laid (now (places .entry)) (now (tags .entry)) 0 0 (builtOf size (now (numbers .entry)) (now (links .entry)) transform reference face) (now (places .exit)) (now (tags .exit)) r ⌝ }
+    ensures { λ r. ⌜ Laid (now (places .entry)) (now (tags .entry)) 0 0 (builtOf size (now (numbers .entry)) (now (links .entry)) transform
+        reference face) (now (places .exit)) (now (tags .exit)) r ⌝ }
 {
     let matrix = rotation::make_matrix_from_quat(transform.q);
     let p = transform.p;
-    let start = links::face_edge(links, size, face);
+    let start = hull_links::face_edge(links, size, face);
     let mut e = start;
     let mut n = 0;
     loop {
         let v = corner(numbers, links, size, matrix, p, e, reference);
         n = put(places, tags, 0, n, v);
-        e = links::next_of(links, size, e);
+        e = hull_links::next_of(links, size, e);
         if e == start {
             return n;
         }
@@ -96,15 +97,15 @@ fn side_plane(numbers: &[f32], links: &[u8], size: HullSize, e: usize, normal: V
     requires { ⌜ Accepted size (now numbers) (now links) × (e < size .«half_edges») ⌝ }
     ensures { λ r. ⌜ r ≡ sidePlaneOf size (now (numbers .entry)) (now (links .entry)) normal e ⌝ }
 {
-    let ahead = links::next_of(links, size, e);
-    let vertex1 = hull::vertex_at(numbers, size, links::origin_of(links, size, e));
-    let vertex2 = hull::vertex_at(numbers, size, links::origin_of(links, size, ahead));
+    let ahead = hull_links::next_of(links, size, e);
+    let vertex1 = hull::vertex_at(numbers, size, hull_links::origin_of(links, size, e));
+    let vertex2 = hull::vertex_at(numbers, size, hull_links::origin_of(links, size, ahead));
     let tangent = normalize(sub(vertex2, vertex1));
     make_plane_from_normal_and_point(cross(tangent, normal), vertex1)
 }
 
-// A face of hull B as a polygon in A's frame, cut by the sides of a face of hull A in the order of its ring. A cut that leaves fewer than three corners, or more than
-// 64, is the last. Each cut goes from one half of the lists to the other.
+// A face of hull B as a polygon in A's frame, cut by the sides of a face of hull A in the order of its ring. A cut that leaves fewer than three
+// corners, or more than 64, is the last. Each cut goes from one half of the lists to the other.
 pub fn clip_to_face(
     numbers_a: &[f32],
     links_a: &[u8],
@@ -116,11 +117,14 @@ pub fn clip_to_face(
     transform: Transform,
     incident: usize,
 ) -> Clipped
-    requires { ⌜ Accepted «size_a» (now «numbers_a») (now «links_a») × Accepted «size_b» (now «numbers_b») (now «links_b») × (face < «size_a» .faces) × (incident < «size_b» .faces) ⌝ }
-    ensures { λ r. ⌜ r ≡ clippedOf (cutRound «size_a» (now («numbers_a» .entry)) (now («links_a» .entry)) face (faceRing «size_a» (now («links_a» .entry)) face) (builtOf «size_b» (now («numbers_b» .entry)) (now («links_b» .entry)) transform (planeAt «size_a» (now («numbers_a» .entry)) face) incident)) ⌝ }
+    requires { ⌜ Accepted «size_a» (now «numbers_a») (now «links_a») × Accepted «size_b» (now «numbers_b») (now «links_b»)
+        × (face < «size_a» .faces) × (incident < «size_b» .faces) ⌝ }
+    ensures { λ r. ⌜ r ≡ clippedOf (cutRound «size_a» (now («numbers_a» .entry)) (now («links_a» .entry)) face
+        (faceRing «size_a» (now («links_a» .entry)) face) (builtOf «size_b» (now («numbers_b» .entry)) (now («links_b» .entry)) transform
+        (planeAt «size_a» (now («numbers_a» .entry)) face) incident)) ⌝ }
 {
     let reference = hull::plane_at(numbers_a, size_a, face);
-    let start = links::face_edge(links_a, size_a, face);
+    let start = hull_links::face_edge(links_a, size_a, face);
     let mut places = [0.0f32; 512];
     let mut tags = [0u8; 512];
     let mut n = build_polygon(
@@ -138,7 +142,7 @@ pub fn clip_to_face(
     loop {
         let plane = side_plane(numbers_a, links_a, size_a, e, reference.normal);
         let q = 64 - p;
-        n = cut::clip_polygon(&mut places, &mut tags, p, n, plane, e as u8, reference, q);
+        n = clip_cut::clip_polygon(&mut places, &mut tags, p, n, plane, e as u8, reference, q);
         p = q;
         if n > 64 {
             return packed(&places, &tags, p, n);
@@ -146,7 +150,7 @@ pub fn clip_to_face(
         if n < 3 {
             return packed(&places, &tags, p, n);
         }
-        e = links::next_of(links_a, size_a, e);
+        e = hull_links::next_of(links_a, size_a, e);
         if e == start {
             return packed(&places, &tags, p, n);
         }
@@ -165,8 +169,10 @@ pub fn candidates(
     face: usize,
     vertex: usize,
 ) -> Clipped
-    requires { ⌜ Accepted «size_a» (now «numbers_a») (now «links_a») × Accepted «size_b» (now «numbers_b») (now «links_b») × (face < «size_a» .faces) × (vertex < «size_b» .vertices) ⌝ }
-    ensures { λ r. ⌜ r ≡ clippedOf (candidatesOf «size_a» (now («numbers_a» .entry)) (now («links_a» .entry)) «size_b» (now («numbers_b» .entry)) (now («links_b» .entry)) transform face vertex) ⌝ }
+    requires { ⌜ Accepted «size_a» (now «numbers_a») (now «links_a») × Accepted «size_b» (now «numbers_b») (now «links_b»)
+        × (face < «size_a» .faces) × (vertex < «size_b» .vertices) ⌝ }
+    ensures { λ r. ⌜ r ≡ clippedOf (candidatesOf «size_a» (now («numbers_a» .entry)) (now («links_a» .entry)) «size_b» (now («numbers_b» .entry))
+        (now («links_b» .entry)) transform face vertex) ⌝ }
 {
     let reference = hull::plane_at(numbers_a, size_a, face);
     let normal = rotation::inv_rotate_vector(transform.q, reference.normal);

@@ -10,13 +10,13 @@ use borrow.Author.Tests.{eq-eqb, ne-eqb}
 use Rattle.vector.specs.declared.Transform.{Transform}
 use Rattle.manifold.specs.declared.SatCache.{SatCache}
 use Rattle.manifold.specs.Records.{emptyContact, hitSet}
-use Rattle.links.specs.declared.HullSize.{HullSize}
-use Rattle.answers.specs.declared.Cached.{Cached}
-use Rattle.cached.specs.Again.{cachedFaceAOf, cachedFaceBOf, cachedEdgeOf}
-use Rattle.full.specs.Full.{fullOf}
-use Rattle.manual.specs.Manual.{manualFaceAOf, manualFaceBOf, manualEdgeOf}
-use Rattle.refusals.specs.Refusals.{refusalOf}
-use Rattle.answers.specs.Answers.{accepted, refusedOf, answerOf}
+use Rattle.hull_links.specs.declared.HullSize.{HullSize}
+use Rattle.collide_outcome.specs.declared.Cached.{Cached}
+use Rattle.collide_cached.specs.Again.{cachedFaceAOf, cachedFaceBOf, cachedEdgeOf}
+use Rattle.collide_full.specs.Full.{fullOf}
+use Rattle.collide_manual.specs.Manual.{manualFaceAOf, manualFaceBOf, manualEdgeOf}
+use Rattle.collide_refusals.specs.Refusals.{refusalOf}
+use Rattle.collide_outcome.specs.Answers.{accepted, refusedOf, answerOf}
 use Rattle.collide.specs.Call.{afterCached, workedOf, collideOf}
 
 -- ---- the work
@@ -73,7 +73,8 @@ module _ (s : HullSize) (n : List Float) (l : List ℕ) (t : HullSize) (m : List
     unfolding collideOf
     too-small h = rw h
 
-    pub call-refused : ltZ capacity (pos 4) ≡ false → (refusalOf s n l t m k x c ≡ 0 → ⊥) → refusedOf (refusalOf s n l t m k x c) c ≡ collideOf s n l t m k x capacity c
+    pub call-refused : ltZ capacity (pos 4) ≡ false → (refusalOf s n l t m k x c ≡ 0 → ⊥) → refusedOf (refusalOf s n l t m k x c) c ≡ collideOf
+        s n l t m k x capacity c
     unfolding collideOf
     call-refused h q = rw (h, ne-eqb _ _ q)
 

@@ -10,13 +10,13 @@ use Rattle.vector.specs.declared.Transform.{Transform}
 use Rattle.manifold.specs.declared.SatCache.{SatCache}
 use Rattle.manifold.specs.declared.Answer.{Answer}
 use Rattle.manifold.specs.Records.{emptyContact, hitSet}
-use Rattle.links.specs.declared.HullSize.{HullSize}
-use Rattle.answers.specs.declared.Cached.{Cached}
-use Rattle.cached.specs.Again.{cachedFaceAOf, cachedFaceBOf, cachedEdgeOf}
-use Rattle.full.specs.Full.{fullOf}
-use Rattle.manual.specs.Manual.{manualFaceAOf, manualFaceBOf, manualEdgeOf}
-use Rattle.refusals.specs.Refusals.{refusalOf}
-use Rattle.answers.specs.Answers.{accepted, refusedOf, answerOf}
+use Rattle.hull_links.specs.declared.HullSize.{HullSize}
+use Rattle.collide_outcome.specs.declared.Cached.{Cached}
+use Rattle.collide_cached.specs.Again.{cachedFaceAOf, cachedFaceBOf, cachedEdgeOf}
+use Rattle.collide_full.specs.Full.{fullOf}
+use Rattle.collide_manual.specs.Manual.{manualFaceAOf, manualFaceBOf, manualEdgeOf}
+use Rattle.collide_refusals.specs.Refusals.{refusalOf}
+use Rattle.collide_outcome.specs.Answers.{accepted, refusedOf, answerOf}
 
 -- hull A is (s, n, l), hull B is (t, m, k), and x places B in A's frame
 module _ (s : HullSize) (n : List Float) (l : List ℕ) (t : HullSize) (m : List Float) (k : List ℕ) (x : Transform) where
@@ -38,7 +38,8 @@ module _ (s : HullSize) (n : List Float) (l : List ℕ) (t : HullSize) (m : List
       (cond (eqb (cache .kind) 8) (answerOf cache (manualEdgeOf s n l t m k x cache))
       (answerOf cache (fullOf s n l t m k x)))))))
 
-  -- "capacity below 4 comes first and is accepted, with no points, the cache untouched, nothing else looked at. Then 1, 2, 3, 4, then 7, 5, 6 as the work meets them."
+  -- "capacity below 4 comes first and is accepted, with no points, the cache untouched, nothing else looked at. Then 1, 2, 3, 4, then 7, 5, 6 as the
+  -- work meets them."
   unfoldable pub collideOf : ℤ → SatCache → Answer
   collideOf capacity cache =
       cond (ltZ capacity (pos 4)) (accepted emptyContact cache)

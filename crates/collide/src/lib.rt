@@ -1,27 +1,28 @@
-// The collision call of hulls.rs, by value: two hulls, a transform and the last cache go in; the outcome and the next cache come out. It requires nothing: whatever breaks a
-// rule is refused by its number. What it answers is in specs/Call.antt, step by step as document 01 has it.
+// The collision call of hulls.rs, by value: two hulls, a transform and the last cache go in; the outcome and the next cache come out. It requires
+// nothing: whatever breaks a rule is refused by its number. What it answers is in specs/Call.antt, step by step as document 01 has it.
 ghost use mathlib.Core.Bool.{true};
 ghost use mathlib.Core.Path.{_≡_};
-ghost use Rattle.hull.specs.Accepted.{Accepted, Placed};
-ghost use Rattle.refusals.specs.Refusals.{cacheRight};
+ghost use Rattle.hull_limits.specs.Transform.{Placed};
+ghost use Rattle.hull.specs.Accepted.{Accepted};
+ghost use Rattle.collide_refusals.specs.Refusals.{cacheRight};
 ghost use Rattle.collide.specs.Call.{afterCached, workedOf, collideOf};
-use answers::Cached;
-use answers::accepted_with;
-use answers::answer_of;
-use answers::refused;
-use cached::cached_edge;
-use cached::cached_face_a;
-use cached::cached_face_b;
-use full::full_search;
-use links::HullSize;
+use collide_cached::cached_edge;
+use collide_cached::cached_face_a;
+use collide_cached::cached_face_b;
+use collide_full::full_search;
+use collide_manual::manual_edge;
+use collide_manual::manual_face_a;
+use collide_manual::manual_face_b;
+use collide_outcome::Cached;
+use collide_outcome::accepted_with;
+use collide_outcome::answer_of;
+use collide_outcome::refused;
+use collide_refusals::first_refusal;
+use hull_links::HullSize;
 use manifold::Answer;
 use manifold::SatCache;
 use manifold::records::empty_contact;
 use manifold::records::hit_set;
-use manual::manual_edge;
-use manual::manual_face_a;
-use manual::manual_face_b;
-use refusals::first_refusal;
 use vector::Transform;
 
 // A cached axis that serves again: hit 1, and the other fields of the cache kept. Else the full search.
@@ -37,7 +38,8 @@ fn after_cached(
     cached: Cached,
 ) -> Answer
     requires { ⌜ Accepted «size_a» (now «numbers_a») (now «links_a») × Accepted «size_b» (now «numbers_b») (now «links_b») × Placed transform ⌝ }
-    ensures { λ r. ⌜ r ≡ afterCached «size_a» (now («numbers_a» .entry)) (now («links_a» .entry)) «size_b» (now («numbers_b» .entry)) (now («links_b» .entry)) transform cache cached ⌝ }
+    ensures { λ r. ⌜ r ≡ afterCached «size_a» (now («numbers_a» .entry)) (now («links_a» .entry)) «size_b» (now («numbers_b» .entry))
+        (now («links_b» .entry)) transform cache cached ⌝ }
 {
     if cached.status != 0 {
         return refused(cached.status, cache);
@@ -69,8 +71,10 @@ fn worked(
     transform: Transform,
     cache: SatCache,
 ) -> Answer
-    requires { ⌜ Accepted «size_a» (now «numbers_a») (now «links_a») × Accepted «size_b» (now «numbers_b») (now «links_b») × Placed transform × (cacheRight «size_a» «size_b» cache ≡ true) ⌝ }
-    ensures { λ r. ⌜ r ≡ workedOf «size_a» (now («numbers_a» .entry)) (now («links_a» .entry)) «size_b» (now («numbers_b» .entry)) (now («links_b» .entry)) transform cache ⌝ }
+    requires { ⌜ Accepted «size_a» (now «numbers_a») (now «links_a») × Accepted «size_b» (now «numbers_b») (now «links_b») × Placed transform
+        × (cacheRight «size_a» «size_b» cache ≡ true) ⌝ }
+    ensures { λ r. ⌜ r ≡ workedOf «size_a» (now («numbers_a» .entry)) (now («links_a» .entry)) «size_b» (now («numbers_b» .entry))
+        (now («links_b» .entry)) transform cache ⌝ }
 {
     let kind = cache.kind;
     match kind {
@@ -207,7 +211,8 @@ pub fn collide_core(
     transform: Transform,
     cache: SatCache,
 ) -> Answer
-    ensures { λ r. ⌜ r ≡ collideOf «size_a» (now («numbers_a» .entry)) (now («links_a» .entry)) «size_b» (now («numbers_b» .entry)) (now («links_b» .entry)) transform capacity cache ⌝ }
+    ensures { λ r. ⌜ r ≡ collideOf «size_a» (now («numbers_a» .entry)) (now («links_a» .entry)) «size_b» (now («numbers_b» .entry))
+        (now («links_b» .entry)) transform capacity cache ⌝ }
 {
     if capacity < 4 {
         return accepted_with(empty_contact(), cache);

@@ -6,17 +6,18 @@ use mathlib.Core.List.{List}
 use native.Mathlib.Omega.{arith}
 use lib.ListN.{length, take, drop}
 use lib.Seq.{take-add, take-all}
-use Rattle.holding.specs.declared.Pending.{Pending}
+use Rattle.stream_pending.specs.declared.Pending.{Pending}
 use Rattle.stream.specs.declared.Part.{Part}
 use Rattle.stream.specs.Told.{heldAfter}
-use Rattle.holding.specs.Held.{Ready}
+use Rattle.stream_pending.specs.Held.{Ready}
 use Rattle.stream.specs.Tells.{Tells}
 use Rattle.contact.specs.Goes.{Goes}
 use Rattle.stream.proofs.Parts.{held-append}
 use Rattle.stream.proofs.Tells.{rest-is}
-use Rattle.holding.proofs.Holds.{differ}
+use Rattle.stream_pending.proofs.Holds.{differ}
 
-pub goes-part : {chunk line o line′ o′ : List ℕ} {p : Pending} {r : Part} → Tells chunk line p o r line′ o′ → Goes (take (r .taken) chunk) line p line′ (r .held)
+pub goes-part : {chunk line o line′ o′ : List ℕ} {p : Pending} {r : Part} → Tells chunk line p o r line′ o′
+    → Goes (take (r .taken) chunk) line p line′ (r .held)
 goes-part t = record { held = t .held }
 
 -- all but the last `left` characters were told, unless a write failed
@@ -54,7 +55,8 @@ going-more {chunk} {line} {l1} {l2} {p} {q} {s} {ok} {ok′} {left} {left′} {t
         let c : Goes (take t (drop (length chunk - left) chunk)) l1 q l2 s = rw (rest-is (length chunk - left) chunk) at b in
         rw n (goes-then chunk (length chunk - left) t (g .goes k) c)
 
-pub going-end : {chunk line line′ : List ℕ} {p q : Pending} {ok : Bool} {left : ℕ} → Going chunk line p ok left line′ q → left ≤ 0 → ok ≡ true → Goes chunk line p line′ q
+pub going-end : {chunk line line′ : List ℕ} {p q : Pending} {ok : Bool} {left : ℕ} → Going chunk line p ok left line′ q → left ≤ 0 → ok ≡ true
+    → Goes chunk line p line′ q
 going-end {chunk} {line} {line′} {p} {q} {left = left} g z e =
     let t : take (length chunk - left) chunk ≡ chunk = take-all (length chunk - left) chunk (omega arith) in
     rw t at (g .goes e)

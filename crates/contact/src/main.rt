@@ -1,14 +1,14 @@
-// The program: each line of standard input is answered by one line on standard output (document 01, "The hex program"). No contract can say what is read or written;
-// what is told of the characters between a read and a write, and held until the next read, is exact (crate stream).
+// The program: each line of standard input is answered by one line on standard output (document 01, "The hex program"). No contract can say what is
+// read or written; what is told of the characters between a read and a write, and held until the next read, is exact (crate stream).
 ghost use mathlib.Core.Bool.{true, false};
 ghost use mathlib.Core.Path.{_≡_};
 ghost use Prim.Native.Nat.{_-_, _≤_, _<_};
 ghost use lib.ListN.{length, take};
-ghost use Rattle.holding.specs.Held.{Ready, nothing};
+ghost use Rattle.stream_pending.specs.Held.{Ready, nothing};
 ghost use Rattle.contact.specs.Goes.{Goes};
-use holding::Pending;
 use stream::tell_last;
 use stream::tell_part;
+use stream_pending::Pending;
 
 // One write, and whether it took everything. A program can return no status, so a failure is told on standard error.
 fn write_answers(answers: &[u8]) -> bool {

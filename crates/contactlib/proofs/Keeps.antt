@@ -12,11 +12,11 @@ use Rattle.manifold.specs.declared.SatCache.{SatCache}
 use Rattle.manifold.specs.declared.Contact.{Contact}
 use Rattle.manifold.specs.declared.Answer.{Answer}
 use Rattle.manifold.specs.Records.{emptyContact, hitSet}
-use Rattle.links.specs.declared.HullSize.{HullSize}
-use Rattle.builds.specs.declared.Built.{Built}
-use Rattle.answers.specs.declared.Cached.{Cached}
-use Rattle.refusals.specs.Refusals.{refusalOf}
-use Rattle.answers.specs.Answers.{accepted, refusedOf, answerOf}
+use Rattle.hull_links.specs.declared.HullSize.{HullSize}
+use Rattle.collide_outcome.specs.declared.Built.{Built}
+use Rattle.collide_outcome.specs.declared.Cached.{Cached}
+use Rattle.collide_refusals.specs.Refusals.{refusalOf}
+use Rattle.collide_outcome.specs.Answers.{accepted, refusedOf, answerOf}
 use Rattle.collide.specs.Call.{afterCached, workedOf, collideOf}
 
 -- an answer that refuses has an empty contact and this cache

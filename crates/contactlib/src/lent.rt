@@ -2,7 +2,7 @@
 ghost use Rattle.collide.specs.Call.{collideOf};
 ghost use Rattle.contactlib.specs.Lent.{Called};
 use collide::collide_core;
-use links::HullSize;
+use hull_links::HullSize;
 use manifold::Outcome;
 use manifold::SatCache;
 use vector::Transform;
@@ -20,7 +20,8 @@ pub extern "C" fn contact_collide(
     transform: Transform,
     cache: &mut SatCache,
 ) -> Outcome
-    ensures { λ r. ⌜ Called (collideOf «size_a» (now («numbers_a» .entry)) (now («links_a» .entry)) «size_b» (now («numbers_b» .entry)) (now («links_b» .entry)) transform capacity (now (cache .entry))) (now (cache .entry)) r (now (cache .exit)) ⌝ }
+    ensures { λ r. ⌜ Called (collideOf «size_a» (now («numbers_a» .entry)) (now («links_a» .entry)) «size_b» (now («numbers_b» .entry))
+        (now («links_b» .entry)) transform capacity (now (cache .entry))) (now (cache .entry)) r (now (cache .exit)) ⌝ }
 {
     let answer = collide_core(
         capacity,

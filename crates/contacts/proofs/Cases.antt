@@ -16,17 +16,17 @@ use Rattle.manifold.specs.declared.Polygon.{Polygon}
 use Rattle.manifold.specs.declared.Contact.{Contact}
 use Rattle.manifold.specs.Polygons.{cornersOf, polygonOf}
 use Rattle.manifold.proofs.Polygons.{corners-polygon, length-corners}
-use Rattle.links.specs.declared.HullSize.{HullSize}
+use Rattle.hull_links.specs.declared.HullSize.{HullSize}
 use Rattle.hull.specs.Numbers.{planeAt}
-use Rattle.corners.specs.declared.Clipped.{Clipped}
-use Rattle.corners.specs.Results.{clippedOf}
-use Rattle.corners.proofs.Results.{too-many, all-corners}
+use Rattle.clip_corners.specs.declared.Clipped.{Clipped}
+use Rattle.clip_corners.specs.Results.{clippedOf}
+use Rattle.clip_corners.proofs.Results.{too-many, all-corners}
 use Rattle.clip.specs.Candidates.{candidatesOf}
-use Rattle.scores.specs.Images.{imageOf, leastSeparationOf, touchingOf}
-use Rattle.points.specs.Points.{contactOf}
+use Rattle.reduce_scores.specs.Images.{imageOf, leastSeparationOf, touchingOf}
+use Rattle.reduce_points.specs.Points.{contactOf}
 use Rattle.reduce.specs.Reduce.{pointsOf}
-use Rattle.builds.specs.declared.Built.{Built}
-use Rattle.builds.specs.Builds.{touchedOf, missed, refusedAt}
+use Rattle.collide_outcome.specs.declared.Built.{Built}
+use Rattle.collide_outcome.specs.Builds.{touchedOf, missed, refusedAt}
 use Rattle.contacts.specs.Faces.{pointsFrom, contactOnA, onFace, faceAOf}
 
 -- ---- the three cases of `onFace`
@@ -45,7 +45,8 @@ module _ (contact : Contact) (kind a b : ℕ) (l : List ClipVertex) where
     when-apart t = rw (le-ltb 64 (length l) h, t)
 
 -- ---- the images of a polygon's corners
-pub images-few : (p points : Polygon) (normal : Vec3) → p .count ≤ 64 → p .count ≤ length (p .vertices) → points ≡ polygonOf (map (imageOf normal) (cornersOf p)) → points .count ≤ 64
+pub images-few : (p points : Polygon) (normal : Vec3) → p .count ≤ 64 → p .count ≤ length (p .vertices)
+    → points ≡ polygonOf (map (imageOf normal) (cornersOf p)) → points .count ≤ 64
 images-few p points normal h long e =
     let n : points .count ≡ length (cornersOf p) = ap (λ (x : Polygon). x .count) e ∙ length-map (cornersOf p) (imageOf normal) in
     omega (arith, n, length-corners p long)
@@ -62,7 +63,8 @@ module _ (p : Polygon) (normal : Vec3) (face vertex : ℕ) (h : p .count ≤ 64)
   pub builds-none : t ≡ false → missed ≡ onFace (contactOnA normal (cornersOf p)) 2 face vertex (cornersOf p)
   builds-none q = sym (when-apart (contactOnA normal (cornersOf p)) 2 face vertex (cornersOf p) few (same ∙ q))
 
-  pub builds-one : t ≡ true → (points : Polygon) (direction : Vec3) (contact : Contact) → points ≡ polygonOf (map (imageOf normal) (cornersOf p)) → direction ≡ arbitraryPerpOf normal
+  pub builds-one : t ≡ true → (points : Polygon) (direction : Vec3) (contact : Contact) → points ≡ polygonOf (map (imageOf normal) (cornersOf p))
+      → direction ≡ arbitraryPerpOf normal
       → contact ≡ contactOf normal (pointsOf direction normal (cornersOf points))
       → (r : Built) → r ≡ touchedOf contact least 2 face vertex → r ≡ onFace (contactOnA normal (cornersOf p)) 2 face vertex (cornersOf p)
   unfolding pointsFrom contactOnA

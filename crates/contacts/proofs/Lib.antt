@@ -1,3 +1,4 @@
 pub mod Cases
+pub mod Ends
 pub mod Turned
 pub mod Owners

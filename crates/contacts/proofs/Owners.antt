@@ -18,14 +18,14 @@ use Rattle.manifold.specs.declared.FeaturePair.{FeaturePair}
 use Rattle.manifold.specs.declared.ClipVertex.{ClipVertex}
 use Rattle.manifold.specs.Records.{zeroVertex, pastVertex}
 use Rattle.manifold.specs.Pairs.{ownerOf, pairOf, flipOf}
-use Rattle.links.specs.declared.HullSize.{HullSize}
-use Rattle.links.specs.Links.{faceRing}
+use Rattle.hull_links.specs.declared.HullSize.{HullSize}
+use Rattle.hull_links.specs.Links.{faceRing}
 use Rattle.hull.specs.Numbers.{planeAt}
-use Rattle.scores.specs.Images.{imageOf}
+use Rattle.reduce_scores.specs.Images.{imageOf}
 use Rattle.reduce.specs.Reduce.{placesOf}
 use Rattle.reduce.proofs.Chosen.{chosen}
-use Rattle.cut.specs.Cut.{kept, beyond, leavingOf, enteringOf, putOutOf, cutFrom, lastOf, cutOf}
-use Rattle.incident.specs.Incident.{incidentFaceOf}
+use Rattle.clip_cut.specs.Cut.{kept, beyond, leavingOf, enteringOf, putOutOf, cutFrom, lastOf, cutOf}
+use Rattle.clip_incident.specs.Incident.{incidentFaceOf}
 use Rattle.clip.specs.Candidates.{taggedOf, cornerOf, builtOf, cutOn, goesOn, cutRound, candidatesOf}
 use Rattle.contacts.specs.Faces.{pointsFrom}
 
@@ -61,11 +61,13 @@ put-owned edge reference v1 d1 v2 d2 p q =
     (picked AllOwned (kept d2) (q, tt) (picked AllOwned (beyond d2) (record { first = q .first; second = omega arith }, tt) tt))
     (picked AllOwned (beyond d1) (picked AllOwned (kept d2) (record { first = omega arith; second = p .second }, (q, tt)) tt) tt)
 
-from-owned : (plane : Plane) (edge : ℕ) (reference : Plane) (v1 : ClipVertex) (l : List ClipVertex) → Owned (v1 .pair) → AllOwned l → AllOwned (cutFrom plane edge reference v1 l)
+from-owned : (plane : Plane) (edge : ℕ) (reference : Plane) (v1 : ClipVertex) (l : List ClipVertex) → Owned (v1 .pair) → AllOwned l
+    → AllOwned (cutFrom plane edge reference v1 l)
 unfolding cutFrom
 from-owned plane edge reference v1 [] p all = tt
 from-owned plane edge reference v1 (v2 ∷ vs) p all =
-    both-owned (putOutOf edge reference v1 (planeSeparationOf plane (v1 .position)) v2 (planeSeparationOf plane (v2 .position))) (cutFrom plane edge reference v2 vs)
+    both-owned (putOutOf edge reference v1 (planeSeparationOf plane (v1 .position)) v2 (planeSeparationOf plane (v2 .position)))
+    (cutFrom plane edge reference v2 vs)
     (put-owned edge reference v1 (planeSeparationOf plane (v1 .position)) v2 (planeSeparationOf plane (v2 .position)) p (all .0))
     (from-owned plane edge reference v2 vs (all .0) (all .1))
 
@@ -134,11 +136,14 @@ module _ (s : HullSize) (n : List Float) (l : List ℕ) (t : HullSize) (m : List
         let direction = arbitraryPerpOf normal in
         let c = chosen direction normal images in
         subst AllOwned (sym (c .same))
-        (each (placesOf direction normal images) (λ i h. owned-at images pastVertex (getD (placesOf direction normal images) i 0) images-owned (c .below i h)))
+        (each (placesOf direction normal images) (λ i h. owned-at images pastVertex (getD (placesOf direction normal images) i 0) images-owned
+        (c .below i h)))
       where
-        each : (js : List ℕ) → ((i : ℕ) → i < length js → Owned (getD images (getD js i 0) pastVertex .pair)) → AllOwned (map (λ (j : ℕ). getD images j pastVertex) js)
+        each : (js : List ℕ) → ((i : ℕ) → i < length js → Owned (getD images (getD js i 0) pastVertex .pair))
+            → AllOwned (map (λ (j : ℕ). getD images j pastVertex) js)
         each [] a = tt
         each (j ∷ js) a = (a 0 (omega arith), each js (λ i h. a (suc i) (omega arith)))
 
-    pub points-flip : (i : ℕ) → i < length (pointsFrom normal all) → flipOf (getD (pointsFrom normal (candidatesOf s n l t m k x f v)) i pastVertex .pair) .status ≡ 0
+    pub points-flip : (i : ℕ) → i < length (pointsFrom normal all)
+        → flipOf (getD (pointsFrom normal (candidatesOf s n l t m k x f v)) i pastVertex .pair) .status ≡ 0
     points-flip i h = flips (getD (pointsFrom normal all) i pastVertex .pair) (owned-at (pointsFrom normal all) pastVertex i points-owned h)

@@ -14,16 +14,16 @@ use Rattle.vector.specs.Awaited.{arbitraryPerpOf}
 use Rattle.rotation.specs.Rotation.{matrixOf, mulMvOf, invertOf}
 use Rattle.manifold.specs.declared.ClipVertex.{ClipVertex}
 use Rattle.manifold.specs.declared.Contact.{Contact}
-use Rattle.links.specs.declared.HullSize.{HullSize}
+use Rattle.hull_links.specs.declared.HullSize.{HullSize}
 use Rattle.hull.specs.Numbers.{planeAt}
-use Rattle.scores.specs.Images.{imageOf, leastSeparationOf, touchingOf}
-use Rattle.points.specs.Points.{pointOf, normalOf, contactOf}
+use Rattle.reduce_scores.specs.Images.{imageOf, leastSeparationOf, touchingOf}
+use Rattle.reduce_points.specs.Points.{pointOf, normalOf, contactOf}
 use Rattle.reduce.proofs.Chosen.{chosen}
 use Rattle.clip.specs.Candidates.{candidatesOf}
-use Rattle.builds.specs.declared.Built.{Built}
-use Rattle.builds.specs.Builds.{touchedOf, missed, refusedAt}
+use Rattle.collide_outcome.specs.declared.Built.{Built}
+use Rattle.collide_outcome.specs.Builds.{touchedOf, missed, refusedAt}
 use Rattle.contacts.specs.Faces.{pointsFrom, carriedOf, contactOnA, contactOnB, onFace, faceAOf, faceBOf}
-use Rattle.builds.specs.Carried.{carriedPoint, carriedPlace, carriedContact}
+use Rattle.contacts.specs.Carried.{carriedPoint, carriedPlace, carriedContact}
 
 -- ---- four points or fewer, carried
 carried-few : (x : Transform) (normal : Vec3) (l : List ClipVertex) → length l ≤ 4
@@ -85,12 +85,14 @@ module _ (s : HullSize) (n : List Float) (l : List ℕ) (t : HullSize) (m : List
   pub b-apart : r .touching ≡ false → r ≡ faceBOf s n l t m k x f v
   unfolding onFace faceAOf faceBOf
   b-apart h =
-      is ∙ apart-alike x (contactOnA normal all) (leastSeparationOf all) f v (ltb v (s .vertices)) (ltb 64 (length all)) (touchingOf (length all) (leastSeparationOf all))
+      is ∙ apart-alike x (contactOnA normal all) (leastSeparationOf all) f v (ltb v (s .vertices)) (ltb 64 (length all))
+      (touchingOf (length all) (leastSeparationOf all))
       (contactOnB x normal all) (ap (λ (z : Built). z .touching) (sym is) ∙ h)
 
   pub b-touching : r .touching ≡ true → swapped x f v r ≡ faceBOf s n l t m k x f v
   unfolding onFace faceAOf faceBOf
   b-touching h =
       ap (swapped x f v) is
-      ∙ touching-alike x (contactOnA normal all) (leastSeparationOf all) f v (ltb v (s .vertices)) (ltb 64 (length all)) (touchingOf (length all) (leastSeparationOf all))
+      ∙ touching-alike x (contactOnA normal all) (leastSeparationOf all) f v (ltb v (s .vertices)) (ltb 64 (length all))
+      (touchingOf (length all) (leastSeparationOf all))
       (contactOnB x normal all) (carried-on-b x normal all) (ap (λ (z : Built). z .touching) (sym is) ∙ h)

@@ -1,5 +1,5 @@
--- The contact of a pair of edges: "the edge pair's one point is its own candidate and image". Definitions only; `line_distance` and `is_within_segments` are awaited and
--- go by their names.
+-- The contact of a pair of edges: "the edge pair's one point is its own candidate and image". Definitions only; `line_distance` and
+-- `is_within_segments` are awaited and go by their names.
 use Prim.Native.Nat.{ℕ}
 use mathlib.Core.Bool.{cond}
 use mathlib.Core.List.{List, [], _∷_}
@@ -14,12 +14,12 @@ use Rattle.rotation.specs.Rotation.{transformPointOf}
 use Rattle.manifold.specs.declared.ClipVertex.{ClipVertex}
 use Rattle.manifold.specs.declared.pairs.FeatureOwner.{FeatureOwner}
 use Rattle.manifold.specs.Pairs.{pairOf}
-use Rattle.links.specs.declared.HullSize.{HullSize}
-use Rattle.links.specs.Links.{twin, origin}
+use Rattle.hull_links.specs.declared.HullSize.{HullSize}
+use Rattle.hull_links.specs.Links.{twin, origin}
 use Rattle.hull.specs.Numbers.{vertexAt}
-use Rattle.points.specs.Points.{contactOf}
-use Rattle.builds.specs.declared.Built.{Built}
-use Rattle.builds.specs.Builds.{touchedOf, missed}
+use Rattle.reduce_points.specs.Points.{contactOf}
+use Rattle.collide_outcome.specs.declared.Built.{Built}
+use Rattle.collide_outcome.specs.Builds.{touchedOf, missed}
 
 -- the one point, of half-edges a and b: halfway between the nearest points, tagged with both
 unfoldable pub edgePoint : LineDistance → Vec3 → ℕ → ℕ → ClipVertex

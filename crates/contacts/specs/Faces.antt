@@ -1,5 +1,6 @@
--- The contact on a face: "A candidate's image is its position less half its separation along the reference normal, with its separation and pair; for face B it is then
--- carried into A's frame and its pair flipped." Definitions only; the candidates are in the specs of `clip`, images and picks in those of `scores` and `reduce`.
+-- The contact on a face: "A candidate's image is its position less half its separation along the reference normal, with its separation and pair; for
+-- face B it is then carried into A's frame and its pair flipped." Definitions only; the candidates are in the specs of `clip`, images and picks in
+-- those of `reduce_scores` and `reduce`.
 use Prim.Native.Nat.{ℕ}
 use mathlib.Core.Bool.{cond}
 use mathlib.Core.List.{List, map}
@@ -14,14 +15,14 @@ use Rattle.rotation.specs.Rotation.{matrixOf, mulMvOf, invertOf}
 use Rattle.manifold.specs.declared.ClipVertex.{ClipVertex}
 use Rattle.manifold.specs.declared.Contact.{Contact}
 use Rattle.manifold.specs.Pairs.{flipOf}
-use Rattle.links.specs.declared.HullSize.{HullSize}
+use Rattle.hull_links.specs.declared.HullSize.{HullSize}
 use Rattle.hull.specs.Numbers.{planeAt}
-use Rattle.scores.specs.Images.{imageOf, leastSeparationOf, touchingOf}
-use Rattle.points.specs.Points.{contactOf}
+use Rattle.reduce_scores.specs.Images.{imageOf, leastSeparationOf, touchingOf}
+use Rattle.reduce_points.specs.Points.{contactOf}
 use Rattle.reduce.specs.Reduce.{pointsOf}
 use Rattle.clip.specs.Candidates.{candidatesOf}
-use Rattle.builds.specs.declared.Built.{Built}
-use Rattle.builds.specs.Builds.{touchedOf, missed, refusedAt}
+use Rattle.collide_outcome.specs.declared.Built.{Built}
+use Rattle.collide_outcome.specs.Builds.{touchedOf, missed, refusedAt}
 
 -- ---- points
 -- of these candidates of a face with this normal, in the face's own frame: all images of four or fewer, else the picks
@@ -41,14 +42,15 @@ contactOnA normal candidates = contactOf normal (pointsFrom normal candidates)
 unfoldable pub contactOnB : Transform → Vec3 → List ClipVertex → Contact
 contactOnB x normal candidates = contactOf (negOf (mulMvOf (matrixOf (x .q)) normal)) (map (carriedOf x) (pointsFrom normal candidates))
 
--- "6: a cut would put out a 65th vertex"; "Fewer than 3 left, or least separation at or above speculative: not touching, cache cleared"; else this contact, and an axis of
--- this type with the least separation and these numbers
+-- "6: a cut would put out a 65th vertex"; "Fewer than 3 left, or least separation at or above speculative: not touching, cache cleared"; else this
+-- contact, and an axis of this type with the least separation and these numbers
 unfoldable pub onFace : Contact → ℕ → ℕ → ℕ → List ClipVertex → Built
 onFace contact kind a b candidates =
     cond (ltb 64 (length candidates)) (refusedAt 6)
     (cond (touchingOf (length candidates) (leastSeparationOf candidates)) (touchedOf contact (leastSeparationOf candidates) kind a b) missed)
 
--- face f of A, and vertex v of B: hull A is (s, n, l), hull B is (t, m, k), and x places B in A's frame. "5: .. a support vertex not below V (a padding lane won)"
+-- face f of A, and vertex v of B: hull A is (s, n, l), hull B is (t, m, k), and x places B in A's frame. "5: .. a support vertex not below V (a
+-- padding lane won)"
 unfoldable pub faceAOf : HullSize → List Float → List ℕ → HullSize → List Float → List ℕ → Transform → ℕ → ℕ → Built
 faceAOf s n l t m k x f v =
     let candidates = candidatesOf s n l t m k x f v in

@@ -1,2 +1,3 @@
 pub mod Faces
 pub mod EdgePairs
+pub mod Carried

@@ -3,10 +3,10 @@ ghost use mathlib.Core.Path.{_≡_};
 ghost use Prim.Native.Nat.{_<_};
 ghost use Rattle.hull.specs.Accepted.{Accepted};
 ghost use Rattle.contacts.specs.EdgePairs.{alongOf, edgeContactOf};
-use builds::Built;
-use builds::missed;
-use builds::touched;
-use links::HullSize;
+use collide_outcome::Built;
+use collide_outcome::missed;
+use collide_outcome::touched;
+use hull_links::HullSize;
 use manifold::ClipVertex;
 use manifold::pairs::FeatureOwner;
 use manifold::pairs::make_feature_pair;
@@ -34,7 +34,7 @@ fn along(nearest: LineDistance, normal: Vec3, edge_a: u8, edge_b: u8) -> Built
         pair: make_feature_pair(FeatureOwner::ShapeA, edge_a, FeatureOwner::ShapeB, edge_b),
     };
     touched(
-        points::one_point(point, normal),
+        reduce_points::one_point(point, normal),
         separation,
         4,
         edge_a,
@@ -54,22 +54,40 @@ pub fn build_edge_contact(
     edge_a: u8,
     edge_b: u8,
 ) -> Built
-    requires { ⌜ Accepted «size_a» (now «numbers_a») (now «links_a») × Accepted «size_b» (now «numbers_b») (now «links_b») × («edge_a» < «size_a» .«half_edges») × («edge_b» < «size_b» .«half_edges») ⌝ }
-    ensures { λ r. ⌜ r ≡ edgeContactOf «size_a» (now («numbers_a» .entry)) (now («links_a» .entry)) «size_b» (now («numbers_b» .entry)) (now («links_b» .entry)) transform normal «edge_a» «edge_b» ⌝ }
+    requires { ⌜ Accepted «size_a» (now «numbers_a») (now «links_a») × Accepted «size_b» (now «numbers_b») (now «links_b»)
+        × («edge_a» < «size_a» .«half_edges») × («edge_b» < «size_b» .«half_edges») ⌝ }
+    ensures { λ r. ⌜ r ≡ edgeContactOf «size_a» (now («numbers_a» .entry)) (now («links_a» .entry)) «size_b» (now («numbers_b» .entry))
+        (now («links_b» .entry)) transform normal «edge_a» «edge_b» ⌝ }
 {
     let ea = edge_a as usize;
     let eb = edge_b as usize;
-    let twin_a = links::twin_of(links_a, size_a, ea);
-    let p_a = hull::vertex_at(numbers_a, size_a, links::origin_of(links_a, size_a, ea));
-    let q_a = hull::vertex_at(numbers_a, size_a, links::origin_of(links_a, size_a, twin_a));
-    let twin_b = links::twin_of(links_b, size_b, eb);
+    let twin_a = hull_links::twin_of(links_a, size_a, ea);
+    let p_a = hull::vertex_at(
+        numbers_a,
+        size_a,
+        hull_links::origin_of(links_a, size_a, ea),
+    );
+    let q_a = hull::vertex_at(
+        numbers_a,
+        size_a,
+        hull_links::origin_of(links_a, size_a, twin_a),
+    );
+    let twin_b = hull_links::twin_of(links_b, size_b, eb);
     let p_b = rotation::transform_point(
         transform,
-        hull::vertex_at(numbers_b, size_b, links::origin_of(links_b, size_b, eb)),
+        hull::vertex_at(
+            numbers_b,
+            size_b,
+            hull_links::origin_of(links_b, size_b, eb),
+        ),
     );
     let q_b = rotation::transform_point(
         transform,
-        hull::vertex_at(numbers_b, size_b, links::origin_of(links_b, size_b, twin_b)),
+        hull::vertex_at(
+            numbers_b,
+            size_b,
+            hull_links::origin_of(links_b, size_b, twin_b),
+        ),
     );
     let nearest = line_distance(p_a, sub(q_a, p_a), p_b, sub(q_b, p_b));
     along(nearest, normal, edge_a, edge_b)

@@ -4,12 +4,12 @@ ghost use Prim.Native.Nat.{_≤_, _<_};
 ghost use Rattle.manifold.specs.Polygons.{cornersOf};
 ghost use Rattle.hull.specs.Accepted.{Accepted};
 ghost use Rattle.contacts.specs.Faces.{contactOnA, onFace, faceAOf, faceBOf};
-use builds::Built;
-use builds::carried;
-use builds::missed;
-use builds::refused_at;
-use builds::touched;
-use links::HullSize;
+use crate::carried::carried;
+use collide_outcome::Built;
+use collide_outcome::missed;
+use collide_outcome::refused_at;
+use collide_outcome::touched;
+use hull_links::HullSize;
 use manifold::Polygon;
 use manifold::SatCache;
 use vector::Transform;
@@ -20,17 +20,18 @@ fn on_face(candidates: Polygon, normal: Vec3, face: u8, vertex: u8) -> Built
     requires { ⌜ candidates .count ≤ 64 ⌝ }
     ensures { λ r. ⌜ r ≡ onFace (contactOnA normal (cornersOf candidates)) 2 face vertex (cornersOf candidates) ⌝ }
 {
-    let least = scores::images::least_separation(candidates);
-    if !scores::images::touching(candidates.count, least) {
+    let least = reduce_scores::images::least_separation(candidates);
+    if !reduce_scores::images::touching(candidates.count, least) {
         return missed();
     }
-    let points = scores::images::images(candidates, normal);
+    let points = reduce_scores::images::images(candidates, normal);
     let direction = vector::awaited::arbitrary_perp(normal);
     let contact = reduce::reduce_manifold_points(points, normal, direction);
     touched(contact, least, 2, face, vertex)
 }
 
-// The contact on a face of A, where `vertex` is the vertex of B that is deepest below it. A vertex that B does not have is refusal 5, a 65th corner of a cut refusal 6.
+// The contact on a face of A, where `vertex` is the vertex of B that is deepest below it. A vertex that B does not have is refusal 5, a 65th corner
+// of a cut refusal 6.
 pub fn build_face_a_contact(
     numbers_a: &[f32],
     links_a: &[u8],
@@ -43,7 +44,8 @@ pub fn build_face_a_contact(
     vertex: u8,
 ) -> Built
     requires { ⌜ Accepted «size_a» (now «numbers_a») (now «links_a») × Accepted «size_b» (now «numbers_b») (now «links_b») × (face < «size_a» .faces) ⌝ }
-    ensures { λ r. ⌜ r ≡ faceAOf «size_a» (now («numbers_a» .entry)) (now («links_a» .entry)) «size_b» (now («numbers_b» .entry)) (now («links_b» .entry)) transform face vertex ⌝ }
+    ensures { λ r. ⌜ r ≡ faceAOf «size_a» (now («numbers_a» .entry)) (now («links_a» .entry)) «size_b» (now («numbers_b» .entry))
+        (now («links_b» .entry)) transform face vertex ⌝ }
 {
     let f = face as usize;
     let v = vertex as usize;
@@ -82,7 +84,8 @@ pub fn build_face_b_contact(
     vertex: u8,
 ) -> Built
     requires { ⌜ Accepted «size_a» (now «numbers_a») (now «links_a») × Accepted «size_b» (now «numbers_b») (now «links_b») × (face < «size_b» .faces) ⌝ }
-    ensures { λ r. ⌜ r ≡ faceBOf «size_a» (now («numbers_a» .entry)) (now («links_a» .entry)) «size_b» (now («numbers_b» .entry)) (now («links_b» .entry)) transform face vertex ⌝ }
+    ensures { λ r. ⌜ r ≡ faceBOf «size_a» (now («numbers_a» .entry)) (now («links_a» .entry)) «size_b» (now («numbers_b» .entry))
+        (now («links_b» .entry)) transform face vertex ⌝ }
 {
     let built = build_face_a_contact(
         numbers_b,

@@ -4,11 +4,11 @@ use mathlib.Core.Path.{_≡_, sym, ap, _∙_}
 use mathlib.Core.List.{List}
 use native.Mathlib.Omega.{arith}
 use lib.ListN.{length}
-use Rattle.links.specs.declared.HullSize.{HullSize}
-use Rattle.encode.specs.Bytes.{answerBytes}
-use Rattle.decode.specs.Fields.{sizeAt}
-use Rattle.decode.specs.Hulls.{hullLength}
-use Rattle.request.specs.Requests.{hullA, hullB, beginsB, callLength, callOf}
+use Rattle.hull_links.specs.declared.HullSize.{HullSize}
+use Rattle.frame_encode.specs.Bytes.{answerBytes}
+use Rattle.frame_decode.specs.Fields.{sizeAt}
+use Rattle.frame_decode.specs.Hulls.{hullLength}
+use Rattle.frame_call.specs.Requests.{hullA, hullB, beginsB, callLength, callOf}
 use Rattle.frame.specs.Frames.{faultOf, callAnswer}
 use Rattle.frame.proofs.Puts.{call-short, call-whole}
 

@@ -10,13 +10,13 @@ use Rattle.root.specs.Root.{rootOf}
 use Rattle.manifold.specs.declared.Answer.{Answer}
 use Rattle.manifold.specs.declared.pairs.Flipped.{Flipped}
 use Rattle.manifold.specs.Pairs.{flipOf}
-use Rattle.encode.specs.Written.{Wrote}
-use Rattle.encode.specs.Bytes.{floatBytes, pairBytes, answerBytes}
-use Rattle.encode.proofs.Written.{wrote-same}
-use Rattle.decode.specs.Fields.{floatAt, pairAt}
-use Rattle.hex.specs.Hex.{hexLine, bytesOf, hexOf}
-use Rattle.hex.proofs.Bytes.{hex-length}
-use Rattle.request.specs.Requests.{callLength, callOf}
+use Rattle.frame_encode.specs.Written.{Wrote}
+use Rattle.frame_encode.specs.Bytes.{floatBytes, pairBytes, answerBytes}
+use Rattle.frame_encode.proofs.Written.{wrote-same}
+use Rattle.frame_decode.specs.Fields.{floatAt, pairAt}
+use Rattle.frame_hex.specs.Hex.{hexLine, bytesOf, hexOf}
+use Rattle.frame_hex.proofs.Bytes.{hex-length}
+use Rattle.frame_call.specs.Requests.{callLength, callOf}
 use Rattle.frame.specs.Answers.{Answers}
 use Rattle.frame.specs.Frames.{faultOf, rootAnswer, flippedAnswer, flipAnswer, callAnswer, frameAnswer}
 use Rattle.frame.specs.Lines.{answeredOf, lineAnswer}
@@ -56,7 +56,8 @@ unfolding frameAnswer
 frame-length [] = fault-short 0x22
 frame-length (k ∷ f) =
     either (eqb k 0x10) (rootAnswer (k ∷ f)) _ (root-short (k ∷ f))
-    (either (eqb k 0x11) (flipAnswer (k ∷ f)) _ (flip-short (k ∷ f)) (either (eqb k 0x12) (callAnswer (k ∷ f)) (faultOf 0x22) (call-short (k ∷ f)) (fault-short 0x22)))
+    (either (eqb k 0x11) (flipAnswer (k ∷ f)) _ (flip-short (k ∷ f)) (either (eqb k 0x12) (callAnswer (k ∷ f)) (faultOf 0x22) (call-short (k ∷ f))
+    (fault-short 0x22)))
 
 pub answered-length : (line : List ℕ) → length (answeredOf line) ≤ 103
 unfolding answeredOf
@@ -74,7 +75,8 @@ unfolding lineAnswer
 line-long line h = ap hexOf (sym (line-over line h))
 
 -- the characters of an answer's bytes are the line's answer
-pub line-answers : (line : List ℕ) {o m s t : List ℕ} {n : ℕ} → Answers (answeredOf line) o n m → Wrote s 0 (hexOf (take n m)) t → 206 ≤ length s → Answers (lineAnswer line) s (2 * n) t
+pub line-answers : (line : List ℕ) {o m s t : List ℕ} {n : ℕ} → Answers (answeredOf line) o n m → Wrote s 0 (hexOf (take n m)) t → 206 ≤ length s
+    → Answers (lineAnswer line) s (2 * n) t
 unfolding lineAnswer
 line-answers line {n = n} a w l =
     let chars : length (hexOf (answeredOf line)) ≡ 2 * length (answeredOf line) = hex-length (answeredOf line) in

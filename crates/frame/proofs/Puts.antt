@@ -10,13 +10,13 @@ use borrow.Author.Tests.{lt-ltb, le-ltb, eq-eqb, ne-eqb}
 use Rattle.root.specs.Root.{rootOf}
 use Rattle.manifold.specs.declared.pairs.Flipped.{Flipped}
 use Rattle.manifold.specs.Pairs.{flipOf}
-use Rattle.encode.specs.Written.{Wrote}
-use Rattle.encode.specs.Bytes.{floatBytes, pairBytes, answerBytes}
-use Rattle.encode.proofs.Written.{front}
-use Rattle.decode.specs.Fields.{floatAt, pairAt}
-use Rattle.decode.proofs.Tables.{table-length}
-use Rattle.hex.specs.Hex.{hexLine, byteOf, bytesOf, hexOf}
-use Rattle.request.specs.Requests.{callLength, callOf}
+use Rattle.frame_encode.specs.Written.{Wrote}
+use Rattle.frame_encode.specs.Bytes.{floatBytes, pairBytes, answerBytes}
+use Rattle.frame_encode.proofs.Written.{front}
+use Rattle.frame_decode.specs.Fields.{floatAt, pairAt}
+use Rattle.frame_decode.proofs.Tables.{table-length}
+use Rattle.frame_hex.specs.Hex.{hexLine, byteOf, bytesOf, hexOf}
+use Rattle.frame_call.specs.Requests.{callLength, callOf}
 use Rattle.frame.specs.Answers.{Answers}
 use Rattle.frame.specs.Frames.{faultOf, rootAnswer, flippedAnswer, flipAnswer, callAnswer, frameAnswer}
 use Rattle.frame.specs.Lines.{answeredOf, lineAnswer}
@@ -106,7 +106,8 @@ frame-call (k ∷ f) n e =
       eq-eqb k 0x12 e,
     )
 
-pub frame-other : (f : List ℕ) → (length f ≡ 0 → ⊥) → (getD f 0 0 ≡ 0x10 → ⊥) → (getD f 0 0 ≡ 0x11 → ⊥) → (getD f 0 0 ≡ 0x12 → ⊥) → faultOf 0x22 ≡ frameAnswer f
+pub frame-other : (f : List ℕ) → (length f ≡ 0 → ⊥) → (getD f 0 0 ≡ 0x10 → ⊥) → (getD f 0 0 ≡ 0x11 → ⊥) → (getD f 0 0 ≡ 0x12 → ⊥)
+    → faultOf 0x22 ≡ frameAnswer f
 unfolding frameAnswer
 frame-other [] n a b c = absurd (n refl)
 frame-other (k ∷ f) n a b c = rw (ne-eqb k 0x10 a, ne-eqb k 0x11 b, ne-eqb k 0x12 c)
@@ -123,7 +124,8 @@ bytes-first line {s} {m} w l =
 pub answer-first : {vs o m : List ℕ} {r : ℕ} → Answers vs o r m → take r m ≡ vs
 answer-first {vs} {o} {m} {r} a = ap (take r) (a .bytes) ∙ take-at vs (drop (length vs) o) r (sym (a .count))
 
-pub bytes-long : (line : List ℕ) {s m : List ℕ} → Wrote s 0 (bytesOf line) m → length line / 2 ≤ length s → length line / 2 ≡ length (take (length line / 2) m)
+pub bytes-long : (line : List ℕ) {s m : List ℕ} → Wrote s 0 (bytesOf line) m → length line / 2 ≤ length s
+    → length line / 2 ≡ length (take (length line / 2) m)
 bytes-long line w l = sym (ap length (bytes-first line w l) ∙ table-length (byteOf line) (length line / 2))
 
 pub answer-long : {vs o m : List ℕ} {r : ℕ} → Answers vs o r m → r ≡ length (take r m)

@@ -7,9 +7,9 @@ use lib.ListN.{length}
 use Rattle.root.specs.Root.{rootOf}
 use Rattle.manifold.specs.declared.pairs.Flipped.{Flipped}
 use Rattle.manifold.specs.Pairs.{flipOf}
-use Rattle.encode.specs.Bytes.{floatBytes, pairBytes, answerBytes}
-use Rattle.decode.specs.Fields.{floatAt, pairAt}
-use Rattle.request.specs.Requests.{callLength, callOf}
+use Rattle.frame_encode.specs.Bytes.{floatBytes, pairBytes, answerBytes}
+use Rattle.frame_decode.specs.Fields.{floatAt, pairAt}
+use Rattle.frame_call.specs.Requests.{callLength, callOf}
 
 -- ff and the fault's number
 abbrev pub faultOf : ℕ → List ℕ

@@ -4,7 +4,7 @@ use mathlib.Core.Bool.{cond}
 use mathlib.Core.List.{List}
 use lib.Dec.{ltb}
 use lib.ListN.{length}
-use Rattle.hex.specs.Hex.{hexLine, bytesOf, hexOf}
+use Rattle.frame_hex.specs.Hex.{hexLine, bytesOf, hexOf}
 use Rattle.frame.specs.Frames.{faultOf, frameAnswer}
 
 -- "Faults, in order: ff24 over 20,000 characters, ff21 not lowercase hex or odd", then what the frame is answered

@@ -1,22 +1,22 @@
-// The answer to one frame of bytes, and to one line of characters, exactly as document 01's section "The hex program" has them (specs/Frames.antt, specs/Lines.antt).
-// A frame is 1 to any number of bytes, its kind first; an answer is 2, 5 or 103.
+// The answer to one frame of bytes, and to one line of characters, exactly as document 01's section "The hex program" has them (specs/Frames.antt,
+// specs/Lines.antt). A frame is 1 to any number of bytes, its kind first; an answer is 2, 5 or 103.
 pub mod lines;
 
 ghost use Prim.Native.Nat.{_≤_};
 ghost use lib.ListN.{length};
 ghost use Rattle.frame.specs.Answers.{Answers};
 ghost use Rattle.frame.specs.Frames.{faultOf, rootAnswer, flippedAnswer, flipAnswer, callAnswer, frameAnswer};
-use decode::float_at;
-use decode::hulls::hull_length;
-use decode::pair_at;
-use decode::size_at;
-use encode::put_answer;
-use encode::put_byte;
-use encode::put_float;
-use encode::put_pair;
+use frame_call::call_of;
+use frame_decode::float_at;
+use frame_decode::hulls::hull_length;
+use frame_decode::pair_at;
+use frame_decode::size_at;
+use frame_encode::put_answer;
+use frame_encode::put_byte;
+use frame_encode::put_float;
+use frame_encode::put_pair;
 use manifold::pairs::Flipped;
 use manifold::pairs::flip_pair;
-use request::call_of;
 use root::root;
 
 // ff and the fault's number.

@@ -3,15 +3,15 @@ ghost use mathlib.Core.Bool.{true};
 ghost use mathlib.Core.Path.{_≡_};
 ghost use Prim.Native.Nat.{_/_, _≤_};
 ghost use lib.ListN.{length};
-ghost use Rattle.hex.specs.Hex.{hexLine, bytesOf};
+ghost use Rattle.frame_hex.specs.Hex.{hexLine, bytesOf};
 ghost use Rattle.frame.specs.Answers.{Answers};
 ghost use Rattle.frame.specs.Frames.{frameAnswer};
 ghost use Rattle.frame.specs.Lines.{answeredOf, lineAnswer};
 use crate::frame_answer;
 use crate::put_fault;
-use hex::hex_line;
-use hex::put_hex;
-use hex::take_bytes;
+use frame_hex::hex_line;
+use frame_hex::put_hex;
+use frame_hex::take_bytes;
 
 // The most characters that a line may have.
 const MOST_CHARACTERS: usize = 20000;

@@ -1,4 +1,4 @@
--- What the answers give: a hull that breaks no rule is `Accepted`, and a transform that is right is `Placed`. Assumes nothing.
+-- What the validator's answer gives: a hull that breaks no rule is `Accepted`. Assumes nothing.
 use mathlib.Core.Path.{_≡_}
 use mathlib.Core.Bool.{true}
 use mathlib.Core.List.{List}
@@ -8,19 +8,17 @@ use lib.Ieee.{Float}
 use Rattle.bounds.specs.Bound.{Below}
 use Rattle.bounds.specs.Squares.{squares3}
 use Rattle.bounds.proofs.Laws.{more}
-use Rattle.links.specs.declared.HullSize.{HullSize}
-use Rattle.links.specs.Links.{padded, planesFrom, origin}
-use Rattle.links.specs.Rules.{Linked}
-use Rattle.links.proofs.Tests.{and-left, all-at, unbroken}
-use Rattle.links.proofs.Facts.{links-fit, numbers-fit, edge-in, vertex-edge-lt, face-edge-lt, face-edge-face, vertex-edge-origin, twin-even, twin-odd}
-use Rattle.links.proofs.Rounds.{rounds}
-use Rattle.vector.specs.declared.Transform.{Transform}
+use Rattle.hull_links.specs.declared.HullSize.{HullSize}
+use Rattle.hull_links.specs.Links.{padded, planesFrom, origin}
+use Rattle.hull_links.specs.Rules.{Linked}
+use Rattle.hull_links.proofs.Tests.{and-left, all-at, unbroken}
+use Rattle.hull_links.proofs.Facts.{links-fit, numbers-fit, edge-in, vertex-edge-lt, face-edge-lt, face-edge-face, vertex-edge-origin, twin-even, twin-odd}
+use Rattle.hull_links.proofs.Rounds.{rounds}
 use Rattle.vector.specs.Bounded.{VecBelow}
 use Rattle.hull.specs.Numbers.{numberAt, boxOf, vertexAt, planeAt}
-use Rattle.measures.specs.Measures.{nearOne, planeRight, endsApart}
-use Rattle.hull.specs.Rule8.{edgeLong, brokenRule, transformRight}
-use Rattle.hull.specs.Accepted.{Accepted, Placed}
-use Rattle.hull.proofs.Transforms.{transform-placed}
+use Rattle.hull_limits.specs.Measures.{nearOne, planeRight, endsApart}
+use Rattle.hull.specs.Rule8.{edgeLong, brokenRule}
+use Rattle.hull.specs.Accepted.{Accepted}
 use Rattle.hull.proofs.Laws.{Passed, passed, coordinate-below, plane-passed, plane-normal, plane-offset}
 
 module _ (s : HullSize) (n : List Float) (l : List ℕ) (p : Passed s n l) where
@@ -83,6 +81,3 @@ accepted s n l q =
       offsets-below = λ f h. more 23 tt (plane-offset _ (plane-passed s n l p f h));
       edges-long = edge-long s n l p;
     }
-
-pub placed : (t : Transform) → transformRight t ≡ true → Placed t
-placed = transform-placed

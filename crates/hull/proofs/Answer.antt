@@ -5,10 +5,10 @@ use mathlib.Core.List.{List, [], _∷_}
 use Prim.Native.Nat.{ℕ}
 use native.Mathlib.Omega.{arith}
 use lib.Ieee.{Float}
-use Rattle.links.specs.declared.HullSize.{HullSize}
-use Rattle.links.specs.Tests.{firstBroken}
-use Rattle.links.specs.Rules.{h1, h2, h3, h4, h5, h6, h7, brokenLinks}
-use Rattle.links.proofs.Tests.{breaks, passes, none-broken, unbroken, broken-early, broken-late}
+use Rattle.hull_links.specs.declared.HullSize.{HullSize}
+use Rattle.hull_links.specs.Tests.{firstBroken}
+use Rattle.hull_links.specs.Rules.{h1, h2, h3, h4, h5, h6, h7, brokenLinks}
+use Rattle.hull_links.proofs.Tests.{breaks, passes, none-broken, unbroken, broken-early, broken-late}
 use Rattle.hull.specs.Rule8.{h8, brokenRule}
 
 -- H2 is asked for before the numbers are read by way of the links

@@ -4,8 +4,8 @@ use mathlib.Core.Path.{_≡_, sym, subst}
 use mathlib.Core.List.{List}
 use native.Mathlib.Omega.{arith}
 use lib.Ieee.{Float}
-use Rattle.links.specs.declared.HullSize.{HullSize}
-use Rattle.links.specs.Links.{padded, next, twin, origin, face, LinksFit, NumbersFit}
+use Rattle.hull_links.specs.declared.HullSize.{HullSize}
+use Rattle.hull_links.specs.Links.{padded, next, twin, origin, face, LinksFit, NumbersFit}
 use Rattle.hull.specs.Accepted.{Accepted}
 
 -- a number that is equal to one below k

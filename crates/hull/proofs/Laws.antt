@@ -10,19 +10,19 @@ use lib.Ieee.{Float}
 use borrow.Author.Tests.{ltb-true, ltb-false, not-true}
 use Rattle.bounds.specs.Bound.{Below}
 use Rattle.bounds.proofs.Laws.{more}
-use Rattle.links.specs.declared.HullSize.{HullSize}
-use Rattle.links.specs.Tests.{_&_, all}
-use Rattle.links.specs.Links.{padded, planesFrom, origin, NumbersFit}
-use Rattle.links.specs.Rules.{h2}
-use Rattle.links.proofs.Facts.{edge-in}
-use Rattle.links.proofs.Tests.{cases, and-left, and-right, and-intro, and-is, all-at, all-intro, same-test}
+use Rattle.hull_links.specs.declared.HullSize.{HullSize}
+use Rattle.hull_links.specs.Tests.{_&_, all}
+use Rattle.hull_links.specs.Links.{padded, planesFrom, origin, NumbersFit}
+use Rattle.hull_links.specs.Rules.{h2}
+use Rattle.hull_links.proofs.Facts.{edge-in}
+use Rattle.hull_links.proofs.Tests.{cases, and-left, and-right, and-intro, and-is, all-at, all-intro, same-test}
 use Rattle.vector.specs.declared.Plane.{Plane}
 use Rattle.vector.specs.Bounded.{VecBelow}
 use Rattle.hull.specs.Numbers.{numberAt, boxOf, vertexAt, planeAt}
-use Rattle.measures.specs.Measures.{inside, inBox, planeRight}
+use Rattle.hull_limits.specs.Measures.{inside, inBox, planeRight}
 use Rattle.hull.specs.Rule8.{finiteAt, smallAt, vertexInBox, planeRightAt, edgeLong, h8}
 use Rattle.hull.specs.Passes.{smallFrom, paddingSmall}
-use Rattle.measures.proofs.Limits.{inside-below, small-below, moderate-below, below-small, normal-below, finite-is}
+use Rattle.hull_limits.proofs.Limits.{inside-below, small-below, moderate-below, below-small, normal-below, finite-is}
 
 -- ---- by H2 the origin of a half-edge is in the lists of vertices
 pub origin-in-list : (s : HullSize) (l : List ℕ) → h2 s l ≡ true → (e v : ℕ) → e < s .«half_edges» → v ≡ origin s l e → v < padded s

@@ -1,5 +1,4 @@
 pub mod Laws
-pub mod Transforms
 pub mod Answer
 pub mod Support
 pub mod Accepted

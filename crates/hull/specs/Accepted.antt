@@ -1,4 +1,4 @@
--- What an accepted hull, and an accepted transform, give to whoever works with them. Definitions only; proofs/Accepted.antt shows both from the answers.
+-- What an accepted hull gives to whoever works with it. Definitions only; proofs/Accepted.antt shows it from the validator's answer.
 -- Bounds are stated at the largest unit, 1000 a metre: coordinates within 2 ^ 22, offsets within 2 ^ 23.
 use mathlib.Core.Bool.{true}
 use mathlib.Core.List.{List}
@@ -7,13 +7,12 @@ use Prim.Native.Nat.{ℕ, _+_, _*_, _/_, _<_}
 use lib.Ieee.{Float}
 use Rattle.bounds.specs.Bound.{Below}
 use Rattle.bounds.specs.Squares.{squares3}
-use Rattle.links.specs.declared.HullSize.{HullSize}
-use Rattle.links.specs.Links.{padded, next, twin, origin, face, vertexEdge, faceEdge, LinksFit, NumbersFit}
-use Rattle.links.specs.Rounds.{Rounds}
-use Rattle.vector.specs.declared.Transform.{Transform}
+use Rattle.hull_links.specs.declared.HullSize.{HullSize}
+use Rattle.hull_links.specs.Links.{padded, next, twin, origin, face, vertexEdge, faceEdge, LinksFit, NumbersFit}
+use Rattle.hull_links.specs.Rounds.{Rounds}
 use Rattle.vector.specs.Bounded.{VecBelow}
 use Rattle.hull.specs.Numbers.{boxOf, vertexAt, planeAt}
-use Rattle.measures.specs.Measures.{nearOne, endsApart}
+use Rattle.hull_limits.specs.Measures.{nearOne, endsApart}
 
 pub record Accepted (s : HullSize) (n : List Float) (l : List ℕ) : Type 0 where
   -- the sizes are within H1's limits, so that every number of a vertex, half-edge or face fits a byte; the lists are as long as they should be
@@ -42,8 +41,3 @@ pub record Accepted (s : HullSize) (n : List Float) (l : List ℕ) : Type 0 wher
   pub offsets-below : (f : ℕ) → f < s .faces → Below 23 (planeAt s n f .offset)
   -- no edge is shorter than 1/1024 on every axis
   pub edges-long : (k : ℕ) → k < s .«half_edges» / 2 → endsApart (vertexAt s n (origin s l (2 * k))) (vertexAt s n (origin s l (2 * k + 1))) ≡ true
-
-pub record Placed (t : Transform) : Type 0 where
-  pub position-below : VecBelow 22 (t .p)
-  pub turn-below : VecBelow 1 (t .q .v)
-  pub scalar-below : Below 1 (t .q .s)

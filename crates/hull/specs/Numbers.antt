@@ -1,11 +1,11 @@
--- The numbers of a hull, one list: the box, low x y z and high x y z; the x, the y and the z list, each padded to a multiple of four; then normal x y z and offset
--- of each face. Definitions only.
+-- The numbers of a hull, one list: the box, low x y z and high x y z; the x, the y and the z list, each padded to a multiple of four; then normal x y
+-- z and offset of each face. Definitions only.
 use mathlib.Core.List.{List}
 use Prim.Native.Nat.{ℕ, _+_, _*_}
 use lib.ListN.{getD, take, drop}
 use lib.Ieee.{Float, nan}
-use Rattle.links.specs.declared.HullSize.{HullSize}
-use Rattle.links.specs.Links.{padded, planesFrom}
+use Rattle.hull_links.specs.declared.HullSize.{HullSize}
+use Rattle.hull_links.specs.Links.{padded, planesFrom}
 use Rattle.vector.specs.declared.Vec3.{Vec3}
 use Rattle.vector.specs.declared.Plane.{Plane}
 use Rattle.vector.specs.declared.Aabb.{Aabb}

@@ -3,9 +3,9 @@ use mathlib.Core.Bool.{Bool}
 use mathlib.Core.List.{List}
 use Prim.Native.Nat.{ℕ, _+_, _-_, _*_}
 use lib.Ieee.{Float}
-use Rattle.links.specs.declared.HullSize.{HullSize}
-use Rattle.links.specs.Tests.{_&_, all}
-use Rattle.links.specs.Links.{padded}
+use Rattle.hull_links.specs.declared.HullSize.{HullSize}
+use Rattle.hull_links.specs.Tests.{_&_, all}
+use Rattle.hull_links.specs.Links.{padded}
 use Rattle.hull.specs.Rule8.{smallAt}
 
 -- number i past `from` is within 4096

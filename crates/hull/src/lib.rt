@@ -1,14 +1,16 @@
 // The numbers of a hull: its box, vertices and planes by value, and the validator, which tells the first broken rule of H1 to H8.
-// What the rules say is in specs/Rule8.antt and in the specs of `links`; what acceptance gives to others is in specs/Accepted.antt.
+// What the rules say is in specs/Rule8.antt and in the specs of `hull_links`; what acceptance gives to others is in specs/Accepted.antt.
 pub mod rule8;
 
 ghost use mathlib.Core.Path.{_≡_};
 ghost use Prim.Native.Nat.{_<_};
-ghost use Rattle.links.specs.Links.{padded, NumbersFit};
+ghost use Rattle.hull_links.specs.Links.{padded, NumbersFit};
 ghost use Rattle.hull.specs.Numbers.{boxOf, vertexAt, planeAt, supportAt};
 ghost use Rattle.hull.specs.Rule8.{brokenRule};
 use crate::rule8::numbers_right;
-use links::HullSize;
+use hull_links::HullSize;
+use hull_links::padded;
+use hull_links::planes_from;
 use vector::Aabb;
 use vector::Plane;
 use vector::Vec3;
@@ -37,7 +39,7 @@ pub fn vertex_at(numbers: &[f32], size: HullSize, v: usize) -> Vec3
     requires { ⌜ NumbersFit size (now numbers) × (v < padded size) ⌝ }
     ensures { λ r. ⌜ r ≡ vertexAt size (now (numbers .entry)) v ⌝ }
 {
-    let p = (size.vertices + 3) / 4 * 4;
+    let p = padded(size);
     Vec3 {
         x: numbers[6 + v],
         y: numbers[6 + p + v],
@@ -50,7 +52,7 @@ pub fn plane_at(numbers: &[f32], size: HullSize, f: usize) -> Plane
     requires { ⌜ NumbersFit size (now numbers) × (f < size .faces) ⌝ }
     ensures { λ r. ⌜ r ≡ planeAt size (now (numbers .entry)) f ⌝ }
 {
-    let at = 6 + 3 * ((size.vertices + 3) / 4 * 4) + 4 * f;
+    let at = planes_from(size) + 4 * f;
     Plane {
         normal: Vec3 {
             x: numbers[at],
@@ -66,7 +68,7 @@ pub fn support_vertex(numbers: &[f32], size: HullSize, d: Vec3) -> usize
     requires { ⌜ NumbersFit size (now numbers) ⌝ }
     ensures { λ r. ⌜ r ≡ supportAt size (now (numbers .entry)) d ⌝ }
 {
-    let p = (size.vertices + 3) / 4 * 4;
+    let p = padded(size);
     let y = 6 + p;
     let z = y + p;
     find_hull_support_vertex(
@@ -82,10 +84,10 @@ pub fn support_vertex(numbers: &[f32], size: HullSize, d: Vec3) -> usize
 pub fn first_broken_rule(numbers: &[f32], links: &[u8], size: HullSize) -> u8
     ensures { λ r. ⌜ r ≡ brokenRule size (now (numbers .entry)) (now (links .entry)) ⌝ }
 {
-    if !sizes::sizes_right(numbers, links, size) {
+    if !hull_rules::sizes_right(numbers, links, size) {
         return 1;
     }
-    let rule = rules::broken_link_rule(links, size);
+    let rule = hull_rules::broken_link_rule(links, size);
     if rule != 0 {
         return rule;
     }

@@ -1,24 +1,23 @@
-// H8 and the rule of a transform. Passes over the numbers have no branch, so that they go four at a time. That all is finite needs no test of its own:
-// what is inside finite limits is finite, and so is each part of a sum of squares that is.
+// H8. Passes over the numbers have no branch, so that they go four at a time. That all is finite needs no test of its own: what is inside finite limits is
+// finite, and so is each part of a sum of squares that is.
 ghost use mathlib.Core.Bool.{true};
 ghost use mathlib.Core.Path.{_≡_};
-ghost use Prim.Native.Nat.{_+_, _-_, _*_, _/_, _<_, _≤_};
+ghost use Prim.Native.Nat.{_+_, _/_, _<_, _≤_};
 ghost use lib.ListN.{length};
-ghost use Rattle.links.specs.Tests.{_&_, all};
-ghost use Rattle.links.specs.Links.{LinksFit, NumbersFit};
-ghost use Rattle.links.specs.Rules.{h2};
-ghost use Rattle.hull.specs.Rule8.{vertexInBox, planeRightAt, edgeLong, h8, transformRight};
+ghost use Rattle.hull_links.specs.Tests.{all};
+ghost use Rattle.hull_links.specs.Links.{LinksFit, NumbersFit};
+ghost use Rattle.hull_links.specs.Rules.{h2};
+ghost use Rattle.hull.specs.Rule8.{vertexInBox, planeRightAt, edgeLong, h8};
 ghost use Rattle.hull.specs.Passes.{smallFrom, paddingSmall};
 use crate::box_of;
 use crate::plane_at;
 use crate::vertex_at;
-use links::HullSize;
-use measures::ends_apart;
-use measures::in_box;
-use measures::is_near_one;
-use measures::is_small;
-use measures::plane_right;
-use vector::Transform;
+use hull_limits::ends_apart;
+use hull_limits::in_box;
+use hull_limits::is_small;
+use hull_limits::plane_right;
+use hull_links::HullSize;
+use hull_links::padded;
 
 // The n numbers from `from` on are within 4096.
 fn numbers_small(numbers: &[f32], from: usize, n: usize) -> bool
@@ -40,7 +39,7 @@ fn padding_small(numbers: &[f32], size: HullSize) -> bool
     ensures { λ r. ⌜ r ≡ paddingSmall size (now (numbers .entry)) ⌝ }
 {
     let v = size.vertices;
-    let p = (v + 3) / 4 * 4;
+    let p = padded(size);
     numbers_small(numbers, 6 + v, p - v)
         & numbers_small(numbers, 6 + p + v, p - v)
         & numbers_small(numbers, 6 + 2 * p + v, p - v)
@@ -81,8 +80,8 @@ fn edge_long(numbers: &[f32], links: &[u8], size: HullSize, k: usize) -> bool
     requires { ⌜ NumbersFit size (now numbers) × LinksFit size (now links) × (h2 size (now links) ≡ true) × (k < size .«half_edges» / 2) ⌝ }
     ensures { λ r. ⌜ r ≡ edgeLong size (now (numbers .entry)) (now (links .entry)) k ⌝ }
 {
-    let a = links::origin_of(links, size, 2 * k);
-    let b = links::origin_of(links, size, 2 * k + 1);
+    let a = hull_links::origin_of(links, size, 2 * k);
+    let b = hull_links::origin_of(links, size, 2 * k + 1);
     ends_apart(vertex_at(numbers, size, a), vertex_at(numbers, size, b))
 }
 
@@ -120,16 +119,4 @@ pub fn numbers_right(numbers: &[f32], links: &[u8], size: HullSize) -> bool
         return false;
     }
     edges_long(numbers, links, size)
-}
-
-// Whether a transform breaks no rule.
-pub fn transform_accepted(t: Transform) -> bool
-    ensures { λ r. ⌜ r ≡ transformRight t ⌝ }
-{
-    let p = t.p;
-    let q = t.q;
-    is_small(p.x)
-        & is_small(p.y)
-        & is_small(p.z)
-        & is_near_one(q.v.x * q.v.x + q.v.y * q.v.y + q.v.z * q.v.z + q.s * q.s)
 }

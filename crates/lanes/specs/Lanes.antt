@@ -31,6 +31,7 @@ leastWOf a b = record { x = leastOf (a .x) (b .x); y = leastOf (a .y) (b .y); z 
 unfoldable pub lesserOf : Float → Float → Float
 lesserOf held next = cond (Ieee.lt next held) next held
 
--- the number of the least of the four. The number is part of the value, so a tie of positive values goes to the lower number, and one of negative values to the higher.
+-- the number of the least of the four. The number is part of the value, so a tie of positive values goes to the lower number, and one of negative
+-- values to the higher.
 unfoldable pub minIndexOf : FloatW → ℕ
 minIndexOf a = indexOf (lesserOf (lesserOf (lesserOf (a .x) (a .y)) (a .z)) (a .w))

@@ -11,12 +11,12 @@ abbrev pub cornersOf : Polygon → List ClipVertex
 cornersOf p = take (p .count) (p .vertices)
 
 -- 64 places with these corners first, and zeros at and above their number
-abbrev pub placesOf : List ClipVertex → List ClipVertex
-placesOf l = l ++ replicate (64 - length l) zeroVertex
+abbrev pub clipPlacesOf : List ClipVertex → List ClipVertex
+clipPlacesOf l = l ++ replicate (64 - length l) zeroVertex
 
 -- the polygon with these corners, at most 64 of them
 abbrev pub polygonOf : List ClipVertex → Polygon
-polygonOf l = record { vertices = placesOf l; count = length l }
+polygonOf l = record { vertices = clipPlacesOf l; count = length l }
 
 -- what the turns at the places 0, 1, .., n - 1 make of a state
 unfoldable pub turns {ℓ} : {S : Type ℓ} → (S → ℕ → S) → S → ℕ → S

@@ -8,7 +8,7 @@ use native.Mathlib.Omega.{arith}
 use Rattle.vector.specs.declared.Vec3.{Vec3}
 use Rattle.manifold.specs.declared.ClipVertex.{ClipVertex}
 use Rattle.manifold.specs.declared.Contact.{Contact}
-use Rattle.points.specs.Points.{contactOf}
+use Rattle.reduce_points.specs.Points.{contactOf}
 use Rattle.reduce.specs.Reduce.{pointsOf}
 use Rattle.reduce.proofs.Chosen.{chosen}
 

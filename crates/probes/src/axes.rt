@@ -1,17 +1,19 @@
 // A door to the axis search. The answer's cases go over as one record, since a C caller has no enum that holds values.
 ghost use mathlib.Core.Path.{_≡_};
-ghost use Rattle.hull.specs.Accepted.{Accepted, Placed};
+ghost use Rattle.hull_limits.specs.Transform.{Placed};
+ghost use Rattle.hull.specs.Accepted.{Accepted};
 ghost use Rattle.axis.specs.Search.{searchOf};
 ghost use Rattle.probes.specs.Axes.{zeroAxis, wantedOf, pairedOf, searchedOf};
 use axis::Axis;
 use axis::EdgeAxis;
 use axis::Search;
 use axis::Wanted;
-use links::HullSize;
+use hull_links::HullSize;
 use vector::Transform;
 use vector::Vec3;
 
-// Case 0 is apart, with its kind, separation and numbers; 1 is found, with both faces and, where `pair` says so, the edge pair; 2 is no face. What a case does not have is zero.
+// Case 0 is apart, with its kind, separation and numbers; 1 is found, with both faces and, where `pair` says so, the edge pair; 2 is no face. What a
+// case does not have is zero.
 #[repr(C)]
 pub struct Searched {
     pub case: u8,
@@ -138,7 +140,8 @@ pub extern "C" fn probe_compute_separating_axis(
     wanted: u8,
 ) -> Searched
     requires { ⌜ Accepted «size_a» (now «numbers_a») (now «links_a») × Accepted «size_b» (now «numbers_b») (now «links_b») × Placed transform ⌝ }
-    ensures { λ r. ⌜ r ≡ searchedOf (searchOf «size_a» (now («numbers_a» .entry)) (now («links_a» .entry)) «size_b» (now («numbers_b» .entry)) (now («links_b» .entry)) transform early (wantedOf wanted)) ⌝ }
+    ensures { λ r. ⌜ r ≡ searchedOf (searchOf «size_a» (now («numbers_a» .entry)) (now («links_a» .entry)) «size_b» (now («numbers_b» .entry))
+        (now («links_b» .entry)) transform early (wantedOf wanted)) ⌝ }
 {
     as_record(axis::compute_separating_axis(
         numbers_a,

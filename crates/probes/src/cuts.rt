@@ -4,16 +4,16 @@ ghost use mathlib.Core.Path.{_≡_};
 ghost use Prim.Native.Nat.{_*_, _≤_, _<_};
 ghost use Rattle.manifold.specs.Polygons.{cornersOf, polygonOf};
 ghost use Rattle.hull.specs.Accepted.{Accepted};
-ghost use Rattle.cut.specs.Cut.{cutOf};
-ghost use Rattle.corners.specs.Places.{Roomy, SideBySide, cornersIn, Laid};
-ghost use Rattle.corners.specs.Results.{clippedOf};
-ghost use Rattle.scores.specs.Images.{imageOf, leastSeparationOf, touchingOf};
-ghost use Rattle.points.specs.Points.{contactOf};
+ghost use Rattle.clip_cut.specs.Cut.{cutOf};
+ghost use Rattle.clip_corners.specs.Places.{Roomy, SideBySide, cornersIn, Laid};
+ghost use Rattle.clip_corners.specs.Results.{clippedOf};
+ghost use Rattle.reduce_scores.specs.Images.{imageOf, leastSeparationOf, touchingOf};
+ghost use Rattle.reduce_points.specs.Points.{contactOf};
 ghost use Rattle.reduce.specs.Reduce.{pointsOf};
-ghost use Rattle.incident.specs.Incident.{incidentFaceOf};
+ghost use Rattle.clip_incident.specs.Incident.{incidentFaceOf};
 ghost use Rattle.clip.specs.Candidates.{builtOf, candidatesOf};
-use corners::Clipped;
-use links::HullSize;
+use clip_corners::Clipped;
+use hull_links::HullSize;
 use manifold::Contact;
 use manifold::Polygon;
 use vector::Plane;
@@ -32,9 +32,10 @@ pub extern "C" fn probe_clip_polygon(
     q: usize,
 ) -> usize
     requires { ⌜ Roomy (now numbers) (now tags) × SideBySide p q × (0 < n) × (n ≤ 64) ⌝ }
-    ensures { λ r. ⌜ Laid (now (numbers .entry)) (now (tags .entry)) q 0 (cutOf plane edge reference (cornersIn (now (numbers .entry)) (now (tags .entry)) p n)) (now (numbers .exit)) (now (tags .exit)) r ⌝ }
+    ensures { λ r. ⌜ Laid (now (numbers .entry)) (now (tags .entry)) q 0
+        (cutOf plane edge reference (cornersIn (now (numbers .entry)) (now (tags .entry)) p n)) (now (numbers .exit)) (now (tags .exit)) r ⌝ }
 {
-    cut::clip_polygon(numbers, tags, p, n, plane, edge, reference, q)
+    clip_cut::clip_polygon(numbers, tags, p, n, plane, edge, reference, q)
 }
 
 #[no_mangle]
@@ -42,7 +43,7 @@ pub extern "C" fn probe_images(candidates: Polygon, normal: Vec3) -> Polygon
     requires { ⌜ candidates .count ≤ 64 ⌝ }
     ensures { λ r. ⌜ r ≡ polygonOf (map (imageOf normal) (cornersOf candidates)) ⌝ }
 {
-    scores::images::images(candidates, normal)
+    reduce_scores::images::images(candidates, normal)
 }
 
 #[no_mangle]
@@ -50,14 +51,14 @@ pub extern "C" fn probe_least_separation(candidates: Polygon) -> f32
     requires { ⌜ candidates .count ≤ 64 ⌝ }
     ensures { λ r. ⌜ r ≡ leastSeparationOf (cornersOf candidates) ⌝ }
 {
-    scores::images::least_separation(candidates)
+    reduce_scores::images::least_separation(candidates)
 }
 
 #[no_mangle]
 pub extern "C" fn probe_touching(count: usize, least: f32) -> bool
     ensures { λ r. ⌜ r ≡ touchingOf count least ⌝ }
 {
-    scores::images::touching(count, least)
+    reduce_scores::images::touching(count, least)
 }
 
 #[no_mangle]
@@ -104,7 +105,7 @@ pub extern "C" fn probe_find_incident_face(
     requires { ⌜ Accepted size (now numbers) (now links) × (vertex < size .vertices) ⌝ }
     ensures { λ r. ⌜ r ≡ incidentFaceOf size (now (numbers .entry)) (now (links .entry)) normal vertex ⌝ }
 {
-    incident::find_incident_face(numbers, links, size, normal, vertex)
+    clip_incident::find_incident_face(numbers, links, size, normal, vertex)
 }
 
 #[no_mangle]
@@ -119,7 +120,8 @@ pub extern "C" fn probe_build_polygon(
     tags: &mut [u8],
 ) -> usize
     requires { ⌜ Accepted size (now numbers) (now links) × (face < size .faces) × Roomy (now places) (now tags) ⌝ }
-    ensures { λ r. ⌜ Laid (now (places .entry)) (now (tags .entry)) 0 0 (builtOf size (now (numbers .entry)) (now (links .entry)) transform reference face) (now (places .exit)) (now (tags .exit)) r ⌝ }
+    ensures { λ r. ⌜ Laid (now (places .entry)) (now (tags .entry)) 0 0 (builtOf size (now (numbers .entry)) (now (links .entry)) transform
+        reference face) (now (places .exit)) (now (tags .exit)) r ⌝ }
 {
     clip::build_polygon(
         numbers,
@@ -145,8 +147,10 @@ pub extern "C" fn probe_candidates(
     face: usize,
     vertex: usize,
 ) -> Clipped
-    requires { ⌜ Accepted «size_a» (now «numbers_a») (now «links_a») × Accepted «size_b» (now «numbers_b») (now «links_b») × (face < «size_a» .faces) × (vertex < «size_b» .vertices) ⌝ }
-    ensures { λ r. ⌜ r ≡ clippedOf (candidatesOf «size_a» (now («numbers_a» .entry)) (now («links_a» .entry)) «size_b» (now («numbers_b» .entry)) (now («links_b» .entry)) transform face vertex) ⌝ }
+    requires { ⌜ Accepted «size_a» (now «numbers_a») (now «links_a») × Accepted «size_b» (now «numbers_b») (now «links_b»)
+        × (face < «size_a» .faces) × (vertex < «size_b» .vertices) ⌝ }
+    ensures { λ r. ⌜ r ≡ clippedOf (candidatesOf «size_a» (now («numbers_a» .entry)) (now («links_a» .entry)) «size_b» (now («numbers_b» .entry))
+        (now («links_b» .entry)) transform face vertex) ⌝ }
 {
     clip::candidates(
         numbers_a,

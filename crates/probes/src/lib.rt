@@ -1,5 +1,6 @@
-// What the runs and the benchmarks of host/ link: a door to each layer, thin. What hosts of the routine link is another library.
-// A probe of several helpers answers them all in one record, so that one call tries a whole layer. The doors to the axis search are in axes.rt, to the cuts and picks in cuts.rt.
+// What the runs and the benchmarks of host/ link: a door to each layer, thin. What hosts of the routine link is another library. A probe of several
+// helpers answers them all in one record, so that one call tries a whole layer. The doors to the axis search are in axes.rt, to the cuts and picks in
+// cuts.rt.
 pub mod axes;
 pub mod cuts;
 
@@ -12,10 +13,11 @@ ghost use Rattle.lanes.specs.Lanes.{FiniteW, embedWOf, leastWOf, minIndexOf};
 ghost use Rattle.vector.specs.Scalar.{minIntOf};
 ghost use Rattle.manifold.specs.declared.pairs.FeatureOwner.{FeatureOwner};
 ghost use Rattle.manifold.specs.Pairs.{pairOf, flipOf};
-ghost use Rattle.hull.specs.Rule8.{brokenRule, transformRight};
+ghost use Rattle.hull_limits.specs.Transform.{transformRight};
+ghost use Rattle.hull.specs.Rule8.{brokenRule};
 ghost use Rattle.probes.specs.Probes.{vectorsOf, rotationsOf, shapesOf, linesOf, limitsOf};
+use hull_links::HullSize;
 use lanes::FloatW;
-use links::HullSize;
 use manifold::FeaturePair;
 use manifold::pairs::FeatureOwner;
 use vector::Aabb;
@@ -254,5 +256,5 @@ pub extern "C" fn probe_first_broken_rule(numbers: &[f32], links: &[u8], size: H
 pub extern "C" fn probe_transform_accepted(t: Transform) -> bool
     ensures { λ r. ⌜ r ≡ transformRight t ⌝ }
 {
-    hull::rule8::transform_accepted(t)
+    hull_limits::transform::transform_accepted(t)
 }

@@ -1,4 +1,5 @@
--- Every contact that a call can build holds points drawn from the images of candidates (specs/Sources.antt), whatever the awaited helpers answer. Assumes nothing.
+-- Every contact that a call can build holds points drawn from the images of candidates (specs/Sources.antt), whatever the awaited helpers answer.
+-- Assumes nothing.
 use Prim.Native.Nat.{ℕ, zero, suc, _<_}
 use mathlib.Core.List.{List, [], _∷_, map}
 use mathlib.Core.Path.{_≡_, refl, sym, ap, ap₂, _∙_}
@@ -21,29 +22,30 @@ use Rattle.manifold.specs.declared.Contact.{Contact}
 use Rattle.manifold.specs.declared.Answer.{Answer}
 use Rattle.manifold.specs.Limits.{speculative}
 use Rattle.manifold.specs.Records.{emptyContact, pastVertex}
-use Rattle.links.specs.declared.HullSize.{HullSize}
+use Rattle.hull_links.specs.declared.HullSize.{HullSize}
 use Rattle.hull.specs.Numbers.{planeAt}
 use Rattle.clip.specs.Candidates.{candidatesOf}
-use Rattle.scores.specs.Images.{imageOf, leastSeparationOf, touchingOf}
-use Rattle.points.specs.Points.{normalOf, contactOf}
+use Rattle.reduce_scores.specs.Images.{imageOf, leastSeparationOf, touchingOf}
+use Rattle.reduce_points.specs.Points.{normalOf, contactOf}
 use Rattle.reduce.specs.Reduce.{pointsOf, placesOf, numbered}
 use Rattle.reduce.specs.Chosen.{Chosen}
 use Rattle.reduce.proofs.Chosen.{chosen}
 use Rattle.axis.specs.declared.Axis.{Axis}
 use Rattle.axis.specs.declared.EdgeAxis.{EdgeAxis}
 use Rattle.axis.specs.declared.Search.{Search}
-use Rattle.builds.specs.declared.Built.{Built}
-use Rattle.builds.specs.Builds.{touchedOf}
+use Rattle.collide_outcome.specs.declared.Built.{Built}
+use Rattle.collide_outcome.specs.Builds.{touchedOf}
 use Rattle.contacts.specs.Faces.{pointsFrom, carriedOf, contactOnA, contactOnB, onFace, faceAOf, faceBOf}
 use Rattle.contacts.specs.EdgePairs.{edgePoint, nearestOf, alongOf, edgeContactOf}
-use Rattle.answers.specs.declared.Cached.{Cached}
-use Rattle.ridges.specs.Ridges.{ridgeOf, carriedRidge, crossesOf, axisBetween}
-use Rattle.answers.specs.Served.{nearOf, servedOf}
-use Rattle.cached.specs.Again.{separationFromA, separationFromB, cachedFaceAOf, cachedFaceBOf, cachedEdgeOf}
-use Rattle.full.specs.Full.{triesEdge, pairContact, contactA, contactB, winnerContact, insteadOf, withEdge, foundContact, apartBuilt, afterSearch, fullOf}
-use Rattle.manual.specs.Manual.{unchanged, afterFaceA, afterFaceB, pairOrNone, afterEdge, manualFaceAOf, manualFaceBOf, manualEdgeOf}
-use Rattle.refusals.specs.Refusals.{refusalOf}
-use Rattle.answers.specs.Answers.{answerOf}
+use Rattle.collide_outcome.specs.declared.Cached.{Cached}
+use Rattle.collide_cached.specs.Ridges.{ridgeOf, carriedRidge, crossesOf, axisBetween}
+use Rattle.collide_outcome.specs.Served.{nearOf, servedOf}
+use Rattle.collide_cached.specs.Again.{separationFromA, separationFromB, cachedFaceAOf, cachedFaceBOf, cachedEdgeOf}
+use Rattle.collide_full.specs.Full.{triesEdge, pairContact, contactA, contactB, winnerContact, insteadOf, withEdge, foundContact, apartBuilt}
+use Rattle.collide_full.specs.Full.{afterSearch, fullOf}
+use Rattle.collide_manual.specs.Manual.{unchanged, afterFaceA, afterFaceB, pairOrNone, afterEdge, manualFaceAOf, manualFaceBOf, manualEdgeOf}
+use Rattle.collide_refusals.specs.Refusals.{refusalOf}
+use Rattle.collide_outcome.specs.Answers.{answerOf}
 use Rattle.collide.specs.Call.{afterCached, workedOf, collideOf}
 use Rattle.promises.specs.Sources.{on-face-a, on-face-b, of-edges, of-none, Drawn}
 
@@ -58,7 +60,8 @@ at-places : (g : ClipVertex → ClipVertex) (vs : List ClipVertex) (js : List �
 at-places g vs [] h = refl
 at-places g vs (j ∷ js) h = ap₂ _∷_ (getD-map g vs j (h 0 (omega arith))) (at-places g vs js (λ i q. h (suc i) (omega (arith, q))))
 
-carried-chosen : (g : ClipVertex → ClipVertex) (images points : List ClipVertex) (places : List ℕ) → Chosen images points places → Chosen (map g images) (map g points) places
+carried-chosen : (g : ClipVertex → ClipVertex) (images points : List ClipVertex) (places : List ℕ) → Chosen images points places
+    → Chosen (map g images) (map g points) places
 carried-chosen g images points places c =
     let long : length (map g images) ≡ length images = length-map images g in
     let many : length (map g points) ≡ length points = length-map points g in
@@ -75,7 +78,14 @@ carried-chosen g images points places c =
 one-chosen : (v : ClipVertex) → Chosen (v ∷ []) (v ∷ []) (0 ∷ [])
 unfolding numbered
 one-chosen v =
-    record { few = omega arith; same = refl; below = λ i h. at-first i h; apart = λ i j h q. absurd (omega (arith, h, q)); all = λ h. refl; order = λ h. refl }
+    record {
+      few = omega arith;
+      same = refl;
+      below = λ i h. at-first i h;
+      apart = λ i j h q. absurd (omega (arith, h, q));
+      all = λ h. refl;
+      order = λ h. refl;
+    }
   where
     at-first : (i : ℕ) → i < 1 → getD (0 ∷ []) i 0 < 1
     at-first zero h = omega arith
@@ -83,7 +93,14 @@ one-chosen v =
 
 none-chosen : Chosen [] [] []
 unfolding numbered
-none-chosen = record { few = omega arith; same = refl; below = λ i h. absurd (omega (arith, h)); apart = λ i j h q. absurd (omega (arith, h, q)); all = λ h. refl; order = λ h. refl }
+none-chosen = record {
+  few = omega arith;
+  same = refl;
+  below = λ i h. absurd (omega (arith, h));
+  apart = λ i j h q. absurd (omega (arith, h, q));
+  all = λ h. refl;
+  order = λ h. refl;
+}
 
 module _ (s : HullSize) (n : List Float) (l : List ℕ) (t : HullSize) (m : List Float) (k : List ℕ) (x : Transform) where
   abbrev Draws : Contact → Type 0
@@ -127,7 +144,15 @@ module _ (s : HullSize) (n : List Float) (l : List ℕ) (t : HullSize) (m : List
   draws-edges : (normal : Vec3) (a b : ℕ) → Draws (contactOf normal (edgePoint (nearestOf s n l t m k x a b) normal a b ∷ []))
   draws-edges normal a b =
       let point = edgePoint (nearestOf s n l t m k x a b) normal a b in
-      record { normal = normal; images = point ∷ []; points = point ∷ []; places = 0 ∷ []; source = of-edges normal a b; holds = refl; chosen = one-chosen point }
+      record {
+        normal = normal;
+        images = point ∷ [];
+        points = point ∷ [];
+        places = 0 ∷ [];
+        source = of-edges normal a b;
+        holds = refl;
+        chosen = one-chosen point;
+      }
 
   -- ---- what is built
   abbrev Builds : Built → Type 0

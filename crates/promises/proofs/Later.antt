@@ -14,9 +14,10 @@ use Rattle.rotation.specs.Rotation.{invertOf}
 use Rattle.manifold.specs.declared.ClipVertex.{ClipVertex}
 use Rattle.manifold.specs.declared.SatCache.{SatCache}
 use Rattle.manifold.specs.Limits.{speculative}
-use Rattle.links.specs.declared.HullSize.{HullSize}
-use Rattle.links.specs.Tests.{firstBroken}
-use Rattle.hull.specs.Accepted.{Accepted, Placed}
+use Rattle.hull_links.specs.declared.HullSize.{HullSize}
+use Rattle.hull_links.specs.Tests.{firstBroken}
+use Rattle.hull_limits.specs.Transform.{Placed}
+use Rattle.hull.specs.Accepted.{Accepted}
 use Rattle.clip.specs.Candidates.{candidatesOf}
 use Rattle.axis.specs.declared.Axis.{Axis}
 use Rattle.axis.specs.declared.Search.{Search}
@@ -24,8 +25,9 @@ use Rattle.axis.specs.declared.Wanted.{Wanted}
 use Rattle.axis.specs.Search.{searchOf}
 use Rattle.axis.specs.Meaning.{statusOf}
 use Rattle.axis.proofs.Always.{never-no-face}
-use Rattle.cached.specs.Again.{separationFromA, separationFromB, cachedFaceAOf, cachedFaceBOf, cachedEdgeOf}
-use Rattle.promises.specs.Numbers.{firstGiven, faceMeets, meetsOnA, meetsOnB, axisMeetsA, axisMeetsB, winnerMeets, searchMeetsA, searchMeetsB, fullMeets, cachedMeetsA, cachedMeetsB, workMeets}
+use Rattle.collide_cached.specs.Again.{separationFromA, separationFromB, cachedFaceAOf, cachedFaceBOf, cachedEdgeOf}
+use Rattle.promises.specs.Numbers.{firstGiven, faceMeets, meetsOnA, meetsOnB, axisMeetsA, axisMeetsB, winnerMeets, searchMeetsA, searchMeetsB}
+use Rattle.promises.specs.Numbers.{fullMeets, cachedMeetsA, cachedMeetsB, workMeets}
 
 -- ---- tests in their order: which one the number of the first that fails names
 at-least : (k : ℕ) (tests : List Bool) → (firstBroken k tests ≡ 0 → ⊥) → k ≤ firstBroken k tests
@@ -35,7 +37,8 @@ at-least k (true ∷ tests) h = let later : suc k ≤ firstBroken (suc k) tests 
 at-least k (false ∷ tests) h = omega arith
 
 -- the test at i fails, and those before it do not
-pub broken-at : (k i : ℕ) (tests : List Bool) → 0 < k → firstBroken k tests ≡ k + i → (getD tests i true ≡ false) × ((j : ℕ) → j < i → getD tests j true ≡ true)
+pub broken-at : (k i : ℕ) (tests : List Bool) → 0 < k → firstBroken k tests ≡ k + i → (getD tests i true ≡ false)
+    × ((j : ℕ) → j < i → getD tests j true ≡ true)
 unfolding firstBroken
 broken-at k i [] p q = absurd (omega (arith, p, q))
 broken-at k zero (false ∷ tests) p q = (refl, λ j h. absurd (omega (arith, h)))
@@ -134,7 +137,8 @@ search-late (Search.Apart a) h = absurd (h refl)
 search-late (Search.Found f) h = absurd (h refl)
 search-late Search.NoFace h = omega arith
 
-pub work-late : (s : HullSize) (n : List Float) (l : List ℕ) (t : HullSize) (m : List Float) (k : List ℕ) (x : Transform) (cache : SatCache) → Late (workMeets s n l t m k x cache)
+pub work-late : (s : HullSize) (n : List Float) (l : List ℕ) (t : HullSize) (m : List Float) (k : List ℕ) (x : Transform) (cache : SatCache)
+    → Late (workMeets s n l t m k x cache)
 work-late s n l t m k x cache = work-has Late (λ h. absurd (h refl)) (λ h. omega arith) (λ h. omega arith) s n l t m k x (λ early w. search-late _) cache
 
 -- ---- not 7 on accepted input

@@ -1,5 +1,5 @@
--- Demand 3, the points. "At most four points come back, each the image of a candidate, none used twice; four candidates or fewer: all, in order." Of every call, whatever is
--- lent, and whatever the awaited helpers answer. Assumes nothing.
+-- Demand 3, the points. "At most four points come back, each the image of a candidate, none used twice; four candidates or fewer: all, in order." Of
+-- every call, whatever is lent, and whatever the awaited helpers answer. Assumes nothing.
 use Prim.Native.Nat.{ℕ, _≤_, _<_}
 use mathlib.Core.List.{List, map}
 use mathlib.Core.Path.{_≡_, sym, subst}
@@ -11,8 +11,8 @@ use Rattle.manifold.specs.declared.SatCache.{SatCache}
 use Rattle.manifold.specs.declared.Contact.{Contact}
 use Rattle.manifold.specs.declared.Outcome.{Outcome}
 use Rattle.manifold.specs.Records.{pastVertex}
-use Rattle.links.specs.declared.HullSize.{HullSize}
-use Rattle.points.specs.Points.{contactOf}
+use Rattle.hull_links.specs.declared.HullSize.{HullSize}
+use Rattle.reduce_points.specs.Points.{contactOf}
 use Rattle.reduce.specs.Reduce.{numbered}
 use Rattle.collide.specs.Call.{collideOf}
 use Rattle.contactlib.specs.Lent.{Called}
@@ -20,7 +20,8 @@ use Rattle.promises.specs.Sources.{Drawn}
 use Rattle.promises.proofs.Draws.{answers-call}
 
 -- hull A is (s, n, l), hull B is (t, m, k), and x places B in A's frame; was is the lent cache at entry, is at exit
-module _ (s : HullSize) (n : List Float) (l : List ℕ) (t : HullSize) (m : List Float) (k : List ℕ) (x : Transform) (capacity : ℤ) (was : SatCache) (r : Outcome) (is : SatCache)
+module _ (s : HullSize) (n : List Float) (l : List ℕ) (t : HullSize) (m : List Float) (k : List ℕ) (x : Transform) (capacity : ℤ)
+    (was : SatCache) (r : Outcome) (is : SatCache)
     (called : Called (collideOf s n l t m k x capacity was) was r is) where
   -- the points are drawn from the images of candidates
   pub drawn : Drawn s n l t m k x (r .contact)

@@ -1,5 +1,5 @@
--- Demand 1, the refusals. "Input is refused exactly when it breaks a rule of document 01, never on the caller's word; a refusal gives its number and an empty contact, and
--- the lent cache keeps every bit." Of every call, whatever is lent. Assumes nothing.
+-- Demand 1, the refusals. "Input is refused exactly when it breaks a rule of document 01, never on the caller's word; a refusal gives its number and
+-- an empty contact, and the lent cache keeps every bit." Of every call, whatever is lent. Assumes nothing.
 use Prim.Native.Nat.{ℕ, _≤_, _<_}
 use mathlib.Core.Bool.{Bool, true, false, cond, false≢true}
 use mathlib.Core.List.{List, [], _∷_}
@@ -15,15 +15,16 @@ use Rattle.manifold.specs.declared.SatCache.{SatCache}
 use Rattle.manifold.specs.declared.Outcome.{Outcome}
 use Rattle.manifold.specs.declared.Answer.{Answer}
 use Rattle.manifold.specs.Records.{emptyContact}
-use Rattle.links.specs.declared.HullSize.{HullSize}
-use Rattle.links.proofs.Tests.{cases}
-use Rattle.hull.specs.Rule8.{brokenRule, transformRight}
-use Rattle.refusals.specs.Refusals.{cacheRight, refusalOf}
-use Rattle.answers.specs.Answers.{accepted}
+use Rattle.hull_links.specs.declared.HullSize.{HullSize}
+use Rattle.hull_links.proofs.Tests.{cases}
+use Rattle.hull_limits.specs.Transform.{transformRight}
+use Rattle.hull.specs.Rule8.{brokenRule}
+use Rattle.collide_refusals.specs.Refusals.{cacheRight, refusalOf}
+use Rattle.collide_outcome.specs.Answers.{accepted}
 use Rattle.collide.specs.Call.{collideOf}
 use Rattle.contactlib.specs.Lent.{Called}
 use Rattle.contactlib.proofs.Keeps.{keeps-call}
-use Rattle.refusals.proofs.Cases.{refuses-1, refuses-2, refuses-3, refuses-4, unrefused}
+use Rattle.collide_refusals.proofs.Cases.{refuses-1, refuses-2, refuses-3, refuses-4, unrefused}
 use Rattle.promises.specs.Numbers.{Exactly, workMeets, numberOf}
 use Rattle.promises.proofs.Statuses.{call-status}
 use Rattle.promises.proofs.Later.{broken-at, work-late, work-not-7}
@@ -57,7 +58,11 @@ module _ (s : HullSize) (n : List Float) (l : List ℕ) (t : HullSize) (m : List
   given-early i low high q =
       cases (ltZ capacity (pos 4))
       (λ small. absurd (omega (arith, low, sym (ap (λ (z : Bool). cond z 0 later) small) ∙ q)))
-      (λ wide. (wide, cases (eqb early 0) (λ none. absurd (too-late none (at-wide wide ∙ q))) (λ some. sym (ap (λ (z : Bool). cond z work early) some) ∙ (at-wide wide ∙ q))))
+      (λ wide. (
+        wide,
+        cases (eqb early 0) (λ none. absurd (too-late none (at-wide wide ∙ q))) (λ some. sym (ap (λ (z : Bool). cond z work early) some)
+            ∙ (at-wide wide ∙ q)),
+      ))
     where
       work : ℕ
       work = workMeets s n l t m k x was
@@ -115,7 +120,8 @@ module _ (s : HullSize) (n : List Float) (l : List ℕ) (t : HullSize) (m : List
     pub transform : Exactly (Wide × RightA × RightB × (transformRight x ≡ false)) 3 (r .status)
     unfolding refusalOf
     transform =
-        exactly (Wide × RightA × RightB × (transformRight x ≡ false)) 3 (omega arith) (omega arith) (λ h. (h .0, sym (refuses-3 s n l t m k x was (h .1) (h .2) (h .3))))
+        exactly (Wide × RightA × RightB × (transformRight x ≡ false)) 3 (omega arith) (omega arith)
+        (λ h. (h .0, sym (refuses-3 s n l t m k x was (h .1) (h .2) (h .3))))
         (λ wide q. let b = broken-at 1 2 tests (omega arith) q in (wide, eqb-true _ _ (b .1 0 (omega arith)), eqb-true _ _ (b .1 1 (omega arith)), b .0))
 
     -- "4: the cache's type is 2 and index_a >= F of A; 3 and index_b >= F of B; 4 and either index is odd or not below its hull's H"

@@ -18,29 +18,31 @@ use Rattle.rotation.specs.Rotation.{invertOf}
 use Rattle.manifold.specs.declared.SatCache.{SatCache}
 use Rattle.manifold.specs.declared.Answer.{Answer}
 use Rattle.manifold.specs.Limits.{speculative}
-use Rattle.links.specs.declared.HullSize.{HullSize}
-use Rattle.links.specs.Tests.{firstBroken}
-use Rattle.links.proofs.Tests.{cases}
+use Rattle.hull_links.specs.declared.HullSize.{HullSize}
+use Rattle.hull_links.specs.Tests.{firstBroken}
+use Rattle.hull_links.proofs.Tests.{cases}
 use Rattle.clip.specs.Candidates.{candidatesOf}
-use Rattle.scores.specs.Images.{leastSeparationOf, touchingOf}
+use Rattle.reduce_scores.specs.Images.{leastSeparationOf, touchingOf}
 use Rattle.axis.specs.declared.Axis.{Axis}
 use Rattle.axis.specs.declared.EdgeAxis.{EdgeAxis}
 use Rattle.axis.specs.declared.Search.{Search}
 use Rattle.axis.specs.Meaning.{statusOf}
-use Rattle.builds.specs.declared.Built.{Built}
-use Rattle.builds.specs.Builds.{touchedOf, refusedAt}
+use Rattle.collide_outcome.specs.declared.Built.{Built}
+use Rattle.collide_outcome.specs.Builds.{touchedOf, refusedAt}
 use Rattle.contacts.specs.Faces.{onFace, faceAOf, faceBOf}
 use Rattle.contacts.specs.EdgePairs.{nearestOf, alongOf, edgeContactOf}
-use Rattle.answers.specs.declared.Cached.{Cached}
-use Rattle.ridges.specs.Ridges.{ridgeOf, carriedRidge, crossesOf, axisBetween}
-use Rattle.answers.specs.Served.{nearOf, servedOf}
-use Rattle.cached.specs.Again.{separationFromA, separationFromB, cachedFaceAOf, cachedFaceBOf, cachedEdgeOf}
-use Rattle.full.specs.Full.{apartBuilt, triesEdge, pairContact, contactA, contactB, winnerContact, insteadOf, withEdge, foundContact, afterSearch, fullOf}
-use Rattle.manual.specs.Manual.{unchanged, afterFaceA, afterFaceB, pairOrNone, afterEdge, manualFaceAOf, manualFaceBOf, manualEdgeOf}
-use Rattle.refusals.specs.Refusals.{refusalOf}
-use Rattle.answers.specs.Answers.{answerOf}
+use Rattle.collide_outcome.specs.declared.Cached.{Cached}
+use Rattle.collide_cached.specs.Ridges.{ridgeOf, carriedRidge, crossesOf, axisBetween}
+use Rattle.collide_outcome.specs.Served.{nearOf, servedOf}
+use Rattle.collide_cached.specs.Again.{separationFromA, separationFromB, cachedFaceAOf, cachedFaceBOf, cachedEdgeOf}
+use Rattle.collide_full.specs.Full.{apartBuilt, triesEdge, pairContact, contactA, contactB, winnerContact, insteadOf, withEdge, foundContact}
+use Rattle.collide_full.specs.Full.{afterSearch, fullOf}
+use Rattle.collide_manual.specs.Manual.{unchanged, afterFaceA, afterFaceB, pairOrNone, afterEdge, manualFaceAOf, manualFaceBOf, manualEdgeOf}
+use Rattle.collide_refusals.specs.Refusals.{refusalOf}
+use Rattle.collide_outcome.specs.Answers.{answerOf}
 use Rattle.collide.specs.Call.{afterCached, workedOf, collideOf}
-use Rattle.promises.specs.Numbers.{firstGiven, faceMeets, meetsOnA, meetsOnB, axisMeetsA, axisMeetsB, winnerMeets, searchMeetsA, searchMeetsB, fullMeets, cachedMeetsA, cachedMeetsB, workMeets, numberOf}
+use Rattle.promises.specs.Numbers.{firstGiven, faceMeets, meetsOnA, meetsOnB, axisMeetsA, axisMeetsB, winnerMeets, searchMeetsA, searchMeetsB}
+use Rattle.promises.specs.Numbers.{fullMeets, cachedMeetsA, cachedMeetsB, workMeets, numberOf}
 
 -- ---- the status of a choice, of what is built, of what is cached and of an answer
 built-choice : (b : Bool) (y z : Built) (p q : ℕ) → y .status ≡ p → z .status ≡ q → cond b y z .status ≡ cond b p q
@@ -120,7 +122,8 @@ module _ (s : HullSize) (n : List Float) (l : List ℕ) (t : HullSize) (m : List
       let w = winnerContact s n l t m k x a b in
       built-choice (eqb (w .status) 0) _ w _ (w .status) refl refl ∙ zero-gives-way (w .status) _ (fine-with w edge)
 
-  status-winner : (a b : Axis) → winnerContact s n l t m k x a b .status ≡ cond (Ieee.lt (b .separation) (a .separation)) (axisMeetsA s n l t m k x a) (axisMeetsB s n l t m k x b)
+  status-winner : (a b : Axis) → winnerContact s n l t m k x a b .status ≡ cond (Ieee.lt (b .separation) (a .separation))
+      (axisMeetsA s n l t m k x a) (axisMeetsB s n l t m k x b)
   unfolding winnerContact
   status-winner a b = built-choice (Ieee.lt (b .separation) (a .separation)) _ _ _ _ (status-axis-a a) (status-axis-b b)
 
@@ -198,4 +201,5 @@ module _ (s : HullSize) (n : List Float) (l : List ℕ) (t : HullSize) (m : List
   pub call-status : (capacity : ℤ) (cache : SatCache) → collideOf s n l t m k x capacity cache .outcome .status ≡ numberOf s n l t m k x capacity cache
   unfolding collideOf numberOf firstGiven
   call-status capacity cache =
-      answer-choice (ltZ capacity (pos 4)) _ _ 0 _ refl (answer-choice (eqb (refusalOf s n l t m k x cache) 0) _ _ _ (refusalOf s n l t m k x cache) (work-status cache) refl)
+      answer-choice (ltZ capacity (pos 4)) _ _ 0 _ refl (answer-choice (eqb (refusalOf s n l t m k x cache) 0) _ _ _ (refusalOf s n l t m k x cache)
+      (work-status cache) refl)

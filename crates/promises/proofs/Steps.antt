@@ -1,5 +1,5 @@
--- Demand 2, the steps. "On accepted input each answer .. is proved equal to the steps in document 01; the square root is proved against IEEE 754." The steps are the
--- definition `collideOf`; here is what it comes to at each of them. Assumes nothing.
+-- Demand 2, the steps. "On accepted input each answer .. is proved equal to the steps in document 01; the square root is proved against IEEE 754."
+-- The steps are the definition `collideOf`; here is what it comes to at each of them. Assumes nothing.
 use Prim.Native.Nat.{ℕ}
 use mathlib.Core.Bool.{true, false}
 use mathlib.Core.List.{List}
@@ -18,18 +18,18 @@ use Rattle.manifold.specs.declared.Outcome.{Outcome}
 use Rattle.manifold.specs.declared.Answer.{Answer}
 use Rattle.manifold.specs.Limits.{speculative}
 use Rattle.manifold.specs.Records.{emptyContact, hitSet}
-use Rattle.links.specs.declared.HullSize.{HullSize}
+use Rattle.hull_links.specs.declared.HullSize.{HullSize}
 use Rattle.axis.specs.declared.Apart.{Apart}
 use Rattle.axis.specs.declared.Search.{Search}
 use Rattle.axis.specs.declared.Wanted.{Wanted}
 use Rattle.axis.specs.Search.{searchOf}
 use Rattle.axis.specs.Meaning.{cacheOf}
-use Rattle.answers.specs.declared.Cached.{Cached}
-use Rattle.ridges.specs.Ridges.{ridgeOf, carriedRidge, crossesOf, axisBetween}
-use Rattle.cached.specs.Again.{separationFromA, separationFromB, cachedFaceAOf, cachedFaceBOf, cachedEdgeOf}
-use Rattle.full.specs.Full.{apartBuilt, afterSearch, fullOf}
-use Rattle.refusals.specs.Refusals.{refusalOf}
-use Rattle.answers.specs.Answers.{accepted, answerOf}
+use Rattle.collide_outcome.specs.declared.Cached.{Cached}
+use Rattle.collide_cached.specs.Ridges.{ridgeOf, carriedRidge, crossesOf, axisBetween}
+use Rattle.collide_cached.specs.Again.{separationFromA, separationFromB, cachedFaceAOf, cachedFaceBOf, cachedEdgeOf}
+use Rattle.collide_full.specs.Full.{apartBuilt, afterSearch, fullOf}
+use Rattle.collide_refusals.specs.Refusals.{refusalOf}
+use Rattle.collide_outcome.specs.Answers.{accepted, answerOf}
 use Rattle.collide.specs.Call.{afterCached, collideOf}
 use Rattle.contactlib.specs.Lent.{Called}
 use Rattle.collide.proofs.Steps.{call-worked, cached-hit, at-2, at-3, at-4, at-rest}
@@ -50,17 +50,20 @@ module _ (a : Answer) (was : SatCache) (r : Outcome) (is : SatCache) (called : C
 module _ (s : HullSize) (n : List Float) (l : List ℕ) (t : HullSize) (m : List Float) (k : List ℕ) (x : Transform) (capacity : ℤ) (cache : SatCache)
     (wide : ltZ capacity (pos 4) ≡ false) (right : refusalOf s n l t m k x cache ≡ 0) where
   -- "Types 1, 5 and 9 to 255 act as type 0: full search."
-  pub full-search : (cache .kind ≡ 2 → ⊥) → (cache .kind ≡ 3 → ⊥) → (cache .kind ≡ 4 → ⊥) → (cache .kind ≡ 6 → ⊥) → (cache .kind ≡ 7 → ⊥) → (cache .kind ≡ 8 → ⊥)
+  pub full-search : (cache .kind ≡ 2 → ⊥) → (cache .kind ≡ 3 → ⊥) → (cache .kind ≡ 4 → ⊥) → (cache .kind ≡ 6 → ⊥) → (cache .kind ≡ 7 → ⊥)
+      → (cache .kind ≡ 8 → ⊥)
       → collideOf s n l t m k x capacity cache ≡ answerOf cache (fullOf s n l t m k x)
   full-search p2 p3 p4 p6 p7 p8 = sym (call-worked s n l t m k x cache capacity wide right) ∙ sym (at-rest s n l t m k x cache p2 p3 p4 p6 p7 p8)
 
   -- an axis apart: no points, and the axis in the cache
-  pub apart-left : (a : Apart) → Search.Apart a ≡ searchOf s n l t m k x true Wanted.Winner → answerOf cache (fullOf s n l t m k x) ≡ accepted emptyContact (cacheOf a)
+  pub apart-left : (a : Apart) → Search.Apart a ≡ searchOf s n l t m k x true Wanted.Winner → answerOf cache (fullOf s n l t m k x) ≡ accepted
+      emptyContact (cacheOf a)
   unfolding fullOf afterSearch apartBuilt answerOf
   apart-left a e = ap (λ (z : Search). answerOf cache (afterSearch s n l t m k x z)) (sym e)
 
   -- a cached axis that serves again: "hit 1, done, other cache fields kept"
-  pub served : (cached : Cached) → cached .status ≡ 0 → cached .hit ≡ true → afterCached s n l t m k x cache cached ≡ accepted (cached .contact) (hitSet 1 cache)
+  pub served : (cached : Cached) → cached .status ≡ 0 → cached .hit ≡ true → afterCached s n l t m k x cache cached ≡ accepted (cached .contact)
+      (hitSet 1 cache)
   served cached p q = sym (cached-hit s n l t m k x cache cached p q)
 
   -- "Type 2 or 3: .. At or above speculative: hit 1, no points."

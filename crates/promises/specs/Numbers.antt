@@ -14,22 +14,23 @@ use Rattle.rotation.specs.Rotation.{invertOf}
 use Rattle.manifold.specs.declared.ClipVertex.{ClipVertex}
 use Rattle.manifold.specs.declared.SatCache.{SatCache}
 use Rattle.manifold.specs.Limits.{speculative}
-use Rattle.links.specs.declared.HullSize.{HullSize}
-use Rattle.links.specs.Tests.{firstBroken}
+use Rattle.hull_links.specs.declared.HullSize.{HullSize}
+use Rattle.hull_links.specs.Tests.{firstBroken}
 use Rattle.clip.specs.Candidates.{candidatesOf}
 use Rattle.axis.specs.declared.Axis.{Axis}
 use Rattle.axis.specs.declared.Search.{Search}
 use Rattle.axis.specs.declared.Wanted.{Wanted}
 use Rattle.axis.specs.Search.{searchOf}
 use Rattle.axis.specs.Meaning.{statusOf}
-use Rattle.cached.specs.Again.{deepestBelowA, deepestBelowB, separationFromA, separationFromB, cachedFaceAOf, cachedFaceBOf, cachedEdgeOf}
-use Rattle.refusals.specs.Refusals.{refusalOf}
+use Rattle.collide_cached.specs.Again.{deepestBelowA, deepestBelowB, separationFromA, separationFromB, cachedFaceAOf, cachedFaceBOf, cachedEdgeOf}
+use Rattle.collide_refusals.specs.Refusals.{refusalOf}
 
 -- the first of two numbers that is given; 0 is none
 unfoldable pub firstGiven : ℕ → ℕ → ℕ
 firstGiven a b = cond (eqb a 0) b a
 
--- "5: the face .. has a support vertex not below V (a padding lane won). 6: a cut would put out a 65th vertex": what a face contact meets, other being the hull of the vertex
+-- "5: the face .. has a support vertex not below V (a padding lane won). 6: a cut would put out a 65th vertex": what a face contact meets, other
+-- being the hull of the vertex
 unfoldable pub faceMeets : HullSize → ℕ → List ClipVertex → ℕ
 faceMeets other v candidates = firstBroken 5 (ltb v (other .vertices) ∷ not (ltb 64 (length candidates)) ∷ [])
 

@@ -15,11 +15,11 @@ use Rattle.manifold.specs.declared.ClipVertex.{ClipVertex}
 use Rattle.manifold.specs.Records.{pastVertex}
 use Rattle.manifold.specs.Limits.{speculative}
 use Rattle.manifold.proofs.Polygons.{turns-keep}
-use Rattle.scores.specs.declared.Best.{Best}
-use Rattle.scores.specs.declared.Triangle.{Triangle}
-use Rattle.scores.specs.Images.{largest}
-use Rattle.scores.specs.Scores.{bias, betterOf, asGoodOf, firstTurn, reachOf, spreadOf, signedAreaOf, outsideOf}
-use Rattle.scores.proofs.Over.{over, turn-over, end-over}
+use Rattle.reduce_scores.specs.declared.Best.{Best}
+use Rattle.reduce_scores.specs.declared.Triangle.{Triangle}
+use Rattle.reduce_scores.specs.Images.{largest}
+use Rattle.reduce_scores.specs.Scores.{bias, betterPickOf, asGoodOf, firstTurn, reachOf, spreadOf, signedAreaOf, outsideOf}
+use Rattle.reduce_scores.proofs.Over.{over, turn-over, end-over}
 use Rattle.reduce.specs.Reduce.{tolerance, firstBest, secondBest, thirdBest, fourthBest}
 use Rattle.reduce.proofs.Standing.{left, stands, read-left, length-left-of}
 
@@ -28,13 +28,13 @@ abbrev pub Turn : Type 0
 Turn = Best → ℕ → ClipVertex → Best
 
 abbrev pub secondTurn : Vec3 → Vec3 → Turn
-secondTurn normal a best i v = betterOf best i (spreadOf normal a v)
+secondTurn normal a best i v = betterPickOf best i (spreadOf normal a v)
 
 abbrev pub thirdTurn : Vec3 → Vec3 → Vec3 → Turn
 thirdTurn normal a ba best i v = asGoodOf best i (absOf (signedAreaOf normal a ba (v .position)))
 
 abbrev pub fourthTurn : Vec3 → Triangle → Turn
-fourthTurn normal t best i v = betterOf best i (outsideOf normal t (v .position))
+fourthTurn normal t best i v = betterPickOf best i (outsideOf normal t (v .position))
 
 abbrev pub nothing : Float → Best
 nothing score = record { found = false; index = 0; score = score }
@@ -50,6 +50,18 @@ module _ (f : Turn) (start : Best) (xs : List ClipVertex) (n : ℕ) (long : n �
       → s ≡ over f start (left pastVertex (take n xs) js) (length (left pastVertex (take n xs) js))
   search-end s i h k p = end-over f start (left pastVertex (take n xs) js) s i (n - length js) (length-left-of pastVertex xs n js long) h k p
 
+-- the end of the third and of the fourth search, whose turns read what a call gave
+pub third-end : (normal a b d : Vec3) (l : List ClipVertex) (s : Best) → d ≡ subOf b a → s ≡ over (thirdTurn normal a d) (nothing tolerance) l (length l)
+    → s ≡ thirdBest normal tolerance a b l
+unfolding thirdBest
+third-end normal a b d l s e h = h ∙ ap (λ (x : Vec3). over (thirdTurn normal a x) (nothing tolerance) l (length l)) e
+
+pub fourth-end : (normal : Vec3) (t u : Triangle) (l : List ClipVertex) (s : Best) → u ≡ t
+    → s ≡ over (fourthTurn normal u) (nothing tolerance) l (length l)
+    → s ≡ fourthBest normal tolerance t l
+unfolding fourthBest
+fourth-end normal t u l s e h = h ∙ ap (λ (x : Triangle). over (fourthTurn normal x) (nothing tolerance) l (length l)) e
+
 -- ---- the answer: where each turn keeps the best or takes its own index, it is the start, or an index below the length
 abbrev pub Takes : Turn → Type 0
 Takes f = (s : Best) (i : ℕ) (v : ClipVertex) → (f s i v ≡ s) ⊎ (f s i v .index ≡ i)
@@ -60,14 +72,15 @@ answer f takes start l =
   where
     keep : (s : Best) (i : ℕ) → (s ≡ start) ⊎ (s .index < i) → (f s i (getD l i pastVertex) ≡ start) ⊎ (f s i (getD l i pastVertex) .index < suc i)
     keep s i h =
-        ⊎-elim (λ e. ⊎-elim (λ q. inl (e ∙ q)) (λ q. inr (omega (arith, ap (λ (b : Best). b .index) e))) h) (λ e. inr (omega (arith, e))) (takes s i (getD l i pastVertex))
+        ⊎-elim (λ e. ⊎-elim (λ q. inl (e ∙ q)) (λ q. inr (omega (arith, ap (λ (b : Best). b .index) e))) h) (λ e. inr (omega (arith, e)))
+        (takes s i (getD l i pastVertex))
 
 takes-either : (q : Bool) (s next : Best) (i : ℕ) → next .index ≡ i → (cond q next s ≡ s) ⊎ (cond q next s .index ≡ i)
 takes-either true s next i e = inr e
 takes-either false s next i e = inl refl
 
-takes-better : (s : Best) (i : ℕ) (score : Float) → (betterOf s i score ≡ s) ⊎ (betterOf s i score .index ≡ i)
-unfolding betterOf
+takes-better : (s : Best) (i : ℕ) (score : Float) → (betterPickOf s i score ≡ s) ⊎ (betterPickOf s i score .index ≡ i)
+unfolding betterPickOf
 takes-better s i score = takes-either (lt (s .score) (bias ⊗ score)) s (record { found = true; index = i; score = score }) i refl
 
 takes-as-good : (s : Best) (i : ℕ) (score : Float) → (asGoodOf s i score ≡ s) ⊎ (asGoodOf s i score .index ≡ i)
@@ -80,10 +93,12 @@ passed-over false s next i e = e
 
 takes-first : (direction : Vec3) → Takes (firstTurn direction)
 unfolding firstTurn
-takes-first direction s i v = passed-over (lt speculative (v .separation)) s (betterOf s i (reachOf direction v)) i (takes-better s i (reachOf direction v))
+takes-first direction s i v = passed-over (lt speculative (v .separation)) s (betterPickOf s i (reachOf direction v)) i
+    (takes-better s i (reachOf direction v))
 
 -- what is found lies below the length
-found-low : (f : Turn) → Takes f → (score : Float) (l : List ClipVertex) (r : Best) → r ≡ over f (nothing score) l (length l) → r .found ≡ true → r .index < length l
+found-low : (f : Turn) → Takes f → (score : Float) (l : List ClipVertex) (r : Best) → r ≡ over f (nothing score) l (length l) → r .found ≡ true
+    → r .index < length l
 found-low f takes score l r e t =
     ⊎-elim (λ q. absurd (false≢true (sym (ap (λ (b : Best). b .found) (e ∙ q)) ∙ t))) (λ q. rw e q) (answer f takes (nothing score) l)
 

@@ -1,4 +1,5 @@
--- The points are at most four, each is the candidate at its place, the places lie below the count and differ, and four or fewer are all kept. Assumes nothing.
+-- The points are at most four, each is the candidate at its place, the places lie below the count and differ, and four or fewer are all kept. Assumes
+-- nothing.
 use Prim.Native.Nat.{ℕ, zero, suc, _-_, _≤_, _<_}
 use mathlib.Core.Path.{_≡_, refl, sym, ap, _∙_}
 use mathlib.Core.Bool.{Bool, true, false, cond}
@@ -13,9 +14,10 @@ use borrow.Author.Tests.{eqb-true, eqb-false, leb-true, le-leb}
 use Rattle.vector.specs.declared.Vec3.{Vec3}
 use Rattle.manifold.specs.declared.ClipVertex.{ClipVertex}
 use Rattle.manifold.specs.Records.{pastVertex}
-use Rattle.scores.specs.Scores.{triangleOf}
+use Rattle.reduce_scores.specs.Scores.{triangleOf}
 use Rattle.reduce.specs.Chosen.{Chosen}
-use Rattle.reduce.specs.Reduce.{without, standing, taken, tolerance, firstBest, secondBest, thirdBest, fourthBest, fourthPicks, thirdPicks, secondPicks, firstPicks, kept, pointsOf, numbered, placesOf}
+use Rattle.reduce.specs.Reduce.{without, standing, taken, tolerance, firstBest, secondBest, thirdBest, fourthBest, fourthPicks, thirdPicks}
+use Rattle.reduce.specs.Reduce.{secondPicks, firstPicks, allOrPicked, pointsOf, numbered, placesOf}
 use Rattle.reduce.proofs.Cases.{cases}
 use Rattle.reduce.proofs.Standing.{standing-low, standing-other, standing-same, length-without, at-without}
 use Rattle.reduce.proofs.Answers.{first-low, second-low, third-low, fourth-low}
@@ -176,26 +178,26 @@ once-taken m {n} (one {j = j} low t) e h (suc a) (suc b) p q r =
 
 -- ---- what is kept
 module _ (js : List ℕ) (n : ℕ) (p : Picked 4 js n) where
-  few-kept : {A : Type 0} (d : A) (l : List A) → length (kept d js l) ≤ 4
-  unfolding kept
+  few-kept : {A : Type 0} (d : A) (l : List A) → length (allOrPicked d js l) ≤ 4
+  unfolding allOrPicked
   few-kept d l =
       cases (leb (length l) 4) (λ t. rw t (leb-true (length l) 4 t)) (λ t. rw (t, length-taken d js l) (picked-few p))
 
-  map-kept : {A B : Type 0} (f : A → B) (a : A) (b : B) (l : List A) → length l ≡ n → kept b js (map f l) ≡ map f (kept a js l)
-  unfolding kept
+  map-kept : {A B : Type 0} (f : A → B) (a : A) (b : B) (l : List A) → length l ≡ n → allOrPicked b js (map f l) ≡ map f (allOrPicked a js l)
+  unfolding allOrPicked
   map-kept f a b l e =
       cases (leb (length l) 4) (λ t. rw (length-map l f, t)) (λ t. rw (length-map l f, t) (map-taken f a b l p e))
 
-  every-kept : (P : ℕ → Type 0) (m : List ℕ) → length m ≡ n → Every P m → Every P (kept 0 js m)
-  unfolding kept
+  every-kept : (P : ℕ → Type 0) (m : List ℕ) → length m ≡ n → Every P m → Every P (allOrPicked 0 js m)
+  unfolding allOrPicked
   every-kept P m e h = cases (leb (length m) 4) (λ t. rw t h) (λ t. rw t (every-taken P m p e h))
 
-  once-kept : (m : List ℕ) → length m ≡ n → Once m → Once (kept 0 js m)
-  unfolding kept
+  once-kept : (m : List ℕ) → length m ≡ n → Once m → Once (allOrPicked 0 js m)
+  unfolding allOrPicked
   once-kept m e h = cases (leb (length m) 4) (λ t. rw t h) (λ t. rw t (once-taken m p e h))
 
-all-of-few : {A : Type 0} (js : List ℕ) (d : A) (l : List A) → length l ≤ 4 → kept d js l ≡ l
-unfolding kept
+all-of-few : {A : Type 0} (js : List ℕ) (d : A) (l : List A) → length l ≤ 4 → allOrPicked d js l ≡ l
+unfolding allOrPicked
 all-of-few js d l h = rw (le-leb (length l) 4 h)
 
 -- ---- the theorem
@@ -211,7 +213,7 @@ chosen direction normal l =
     let low : Every (λ (x : ℕ). x < n) (numbered n) = λ i h. rw (at-numbered n i (omega (arith, m))) (omega (arith, m)) in
     record {
       few = few-kept js n p pastVertex l;
-      same = ap (kept pastVertex js) (all-places pastVertex l) ∙ map-kept js n p at 0 pastVertex (numbered n) m;
+      same = ap (allOrPicked pastVertex js) (all-places pastVertex l) ∙ map-kept js n p at 0 pastVertex (numbered n) m;
       below = every-kept js n p (λ (x : ℕ). x < n) (numbered n) m low;
       apart = λ i j h k e. let q = once-kept js n p (numbered n) m once i j (omega arith) k e in omega arith;
       all = λ h. sym (all-kept direction normal l h);

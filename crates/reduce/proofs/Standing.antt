@@ -40,7 +40,8 @@ module _ {A : Type 0} (d : A) where
   at-without l j i h =
       let x = getD l (length l - 1) d in
       getD-take (length l - 1) (set l j x) i d h
-      ∙ cases (eqb i j) (λ t. rw (t, eqb-true i j t) (getD-set-same l j x d (omega (arith, eqb-true i j t)))) (λ t. rw t (getD-set-other l j i x d (eqb-false i j t)))
+      ∙ cases (eqb i j) (λ t. rw (t, eqb-true i j t) (getD-set-same l j x d (omega (arith, eqb-true i j t))))
+      (λ t. rw t (getD-set-other l j i x d (eqb-false i j t)))
 
 -- ---- several taken
 -- what is left of l once these were taken, and which of n elements then stands at i
@@ -69,7 +70,8 @@ module _ {A : Type 0} (d : A) where
       at-left (without d l j) js i (omega (arith, n)) ∙ rw n (at-without d l j (stands (length l - 1) js i) low)
 
 -- ---- the first n of an array: what is left of them at i is read at its place, which lies below n
-module _ {A : Type 0} (d : A) (xs : List A) (n : ℕ) (long : n ≤ length xs) (js : List ℕ) (i place : ℕ) (h : i < n - length js) (e : place ≡ stands n js i) where
+module _ {A : Type 0} (d : A) (xs : List A) (n : ℕ) (long : n ≤ length xs) (js : List ℕ) (i place : ℕ) (h : i < n - length js)
+    (e : place ≡ stands n js i) where
   pub place-low : place < n
   place-low = rw e (stands-low n js i h)
 

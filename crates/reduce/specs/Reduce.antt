@@ -1,5 +1,5 @@
--- "More than four candidates: up to four picks by the scores in `reduce_manifold_points`, each pick's place filled by the last candidate." The points, and beside
--- them which candidate each point is. Definitions only.
+-- "More than four candidates: up to four picks by the scores in `reduce_manifold_points`, each pick's place filled by the last candidate." The
+-- points, and beside them which candidate each point is. Definitions only.
 use Prim.Native.Nat.{ℕ, zero, suc, _-_}
 use mathlib.Core.Bool.{cond, false}
 use mathlib.Core.List.{List, [], _∷_, _++_, map}
@@ -17,10 +17,10 @@ use Rattle.manifold.specs.declared.Contact.{Contact}
 use Rattle.manifold.specs.Records.{zeroPoint, pastVertex}
 use Rattle.manifold.specs.Limits.{speculative}
 use Rattle.manifold.specs.Polygons.{turns}
-use Rattle.scores.specs.declared.Best.{Best}
-use Rattle.scores.specs.declared.Triangle.{Triangle}
-use Rattle.scores.specs.Images.{largest}
-use Rattle.scores.specs.Scores.{betterOf, asGoodOf, firstTurn, spreadOf, signedAreaOf, outsideOf, triangleOf}
+use Rattle.reduce_scores.specs.declared.Best.{Best}
+use Rattle.reduce_scores.specs.declared.Triangle.{Triangle}
+use Rattle.reduce_scores.specs.Images.{largest}
+use Rattle.reduce_scores.specs.Scores.{betterPickOf, asGoodOf, firstTurn, spreadOf, signedAreaOf, outsideOf, triangleOf}
 
 -- ---- lists from which elements are taken; d is what the logic reads past their end
 -- without the element at j: its place is filled by the last
@@ -47,14 +47,14 @@ unfoldable pub firstBest : Vec3 → List ClipVertex → Best
 firstBest direction l = turns (λ (best : Best) (i : ℕ). firstTurn direction best i (at l i)) (none (Ieee.neg largest)) (length l)
 
 unfoldable pub secondBest : Vec3 → Vec3 → List ClipVertex → Best
-secondBest normal a l = turns (λ (best : Best) (i : ℕ). betterOf best i (spreadOf normal a (at l i))) (none (float 0)) (length l)
+secondBest normal a l = turns (λ (best : Best) (i : ℕ). betterPickOf best i (spreadOf normal a (at l i))) (none (float 0)) (length l)
 
 unfoldable pub thirdBest : Vec3 → Float → Vec3 → Vec3 → List ClipVertex → Best
 thirdBest normal tolerance a b l =
     turns (λ (best : Best) (i : ℕ). asGoodOf best i (absOf (signedAreaOf normal a (subOf b a) (at l i .position)))) (none tolerance) (length l)
 
 unfoldable pub fourthBest : Vec3 → Float → Triangle → List ClipVertex → Best
-fourthBest normal tolerance t l = turns (λ (best : Best) (i : ℕ). betterOf best i (outsideOf normal t (at l i .position))) (none tolerance) (length l)
+fourthBest normal tolerance t l = turns (λ (best : Best) (i : ℕ). betterPickOf best i (outsideOf normal t (at l i .position))) (none tolerance) (length l)
 
 -- ---- the picks: the index that each search finds, in the list as it then stands
 -- speculative * speculative
@@ -82,11 +82,11 @@ firstPicks direction normal l =
     cond (best .found) (best .index ∷ secondPicks normal (at l (best .index)) (without pastVertex l (best .index))) []
 
 -- ---- the points: all, in order, of four or fewer; else what the picks take
-unfoldable pub kept : {A : Type 0} → A → List ℕ → List A → List A
-kept d picks l = cond (leb (length l) 4) l (taken d picks l)
+unfoldable pub allOrPicked : {A : Type 0} → A → List ℕ → List A → List A
+allOrPicked d picks l = cond (leb (length l) 4) l (taken d picks l)
 
 unfoldable pub pointsOf : Vec3 → Vec3 → List ClipVertex → List ClipVertex
-pointsOf direction normal l = kept pastVertex (firstPicks direction normal l) l
+pointsOf direction normal l = allOrPicked pastVertex (firstPicks direction normal l) l
 
 -- 0, 1, .., n - 1
 unfoldable pub numbered : ℕ → List ℕ
@@ -95,4 +95,4 @@ numbered (suc n) = numbered n ++ (n ∷ [])
 
 -- which candidate each point is, by its place in the list before any pick: the same picks, of the places themselves
 unfoldable pub placesOf : Vec3 → Vec3 → List ClipVertex → List ℕ
-placesOf direction normal l = kept 0 (firstPicks direction normal l) (numbered (length l))
+placesOf direction normal l = allOrPicked 0 (firstPicks direction normal l) (numbered (length l))

@@ -1,13 +1,14 @@
-// Where a candidate stands among those that are left, and one turn of the first search. j1, j2 and j3 are the indices of the picks so far, each in the list as it stood.
+// Where a candidate stands among those that are left, and one turn of the first search. j1, j2 and j3 are the indices of the picks so far, each in
+// the list as it stood.
 ghost use mathlib.Core.Path.{_≡_};
 ghost use Prim.Native.Nat.{_-_, _<_};
-ghost use Rattle.scores.specs.Scores.{firstTurn};
+ghost use Rattle.reduce_scores.specs.Scores.{firstTurn};
 ghost use Rattle.reduce.specs.Reduce.{standing};
 use manifold::ClipVertex;
 use manifold::limits::speculative_distance;
-use scores::Best;
-use scores::better;
-use scores::reach;
+use reduce_scores::Best;
+use reduce_scores::better;
+use reduce_scores::reach;
 use vector::Vec3;
 
 // Which of n candidates stands at i once the one at j1 was taken: its place is filled by the last.

@@ -1,9 +1,11 @@
--- For a finite x above zero no value y of binary32 is nearer to √x than the r that `isRoot x` accepts: √x is on r's side of (r + y) / 2, so 4 * x is compared with (r + y) ^ 2.
--- The three theorems at the end take y above r, y below r and not negative, and y below zero. Assumes nothing.
+-- For a finite x above zero no value y of binary32 is nearer to √x than the r that `isRoot x` accepts: √x is on r's side of (r + y) / 2, so 4 * x is
+-- compared with (r + y) ^ 2. The three theorems at the end take y above r, y below r and not negative, and y below zero. Assumes nothing.
 use mathlib.Core.Path.{_≡_, sym, ap, _∙_, subst, subst⁻¹}
 use mathlib.Core.Logic.{inl, inr}
 use Prim.Native.Nat.{ℕ, suc, _+_, _-_, _*_, _^_, _≤_, _<_}
-use native.Mathlib.Nat.{le-trans, le-of-eq, le-of-lt, lt-of-lt-of-le, lt-of-le-of-lt, lt-of-mul-lt-mul-right, lt-of-not-le, not-le-of-lt, eq-or-lt-of-le, mul-assoc, mul-comm, mul-left-comm, mul-right-comm, mul-one, add-mul, mul-le-mul, mul-le-mul-left, mul-le-mul-right, mul-lt-mul-of-pos-right, mul-pos, sub-le, add-zero}
+use native.Mathlib.Nat.{le-trans, le-of-eq, le-of-lt, lt-of-lt-of-le, lt-of-le-of-lt, lt-of-mul-lt-mul-right, lt-of-not-le, not-le-of-lt}
+use native.Mathlib.Nat.{eq-or-lt-of-le, mul-assoc, mul-comm, mul-left-comm, mul-right-comm, mul-one, add-mul, mul-le-mul, mul-le-mul-left}
+use native.Mathlib.Nat.{mul-le-mul-right, mul-lt-mul-of-pos-right, mul-pos, sub-le, add-zero}
 use native.Mathlib.Omega.{arith}
 use mathlib.Core.Bool.{true, false, not}
 use lib.IntN.{ℤ}
@@ -42,7 +44,8 @@ units-mono y r h = elim (eq-or-lt-of-le h) [
           (le-trans (le-of-lt g) (le-trans (least r) (le-trans (le-of-eq (sym (mul-one (sig r)))) (mul-le-mul-left (sig r) (pow-pos (place r))))))
     ]
 
-patterns : (p n : ℕ) (c d : ℤ) → T (fits binary32 (fin false p c)) → T (fits binary32 (fin false n d)) → T (lt (fin false p c) (fin false n d)) → toBits binary32 (fin false p c) < toBits binary32 (fin false n d)
+patterns : (p n : ℕ) (c d : ℤ) → T (fits binary32 (fin false p c)) → T (fits binary32 (fin false n d)) → T (lt (fin false p c) (fin false n d))
+    → toBits binary32 (fin false p c) < toBits binary32 (fin false n d)
 unfolding lt
 patterns p n c d f g t =
     let r = toBits binary32 (fin false p c) in
@@ -78,7 +81,8 @@ opened : (m : ℕ) (e : ℤ) (r : Float) → T (isRoot (fin false (suc m) e) r) 
 unfolding isRoot
 opened m e r t = t
 
-module _ (m : ℕ) (e : ℤ) (p : ℕ) (c : ℤ) (n : ℕ) (d : ℤ) (f : T (fits binary32 (fin false p c))) (g : T (fits binary32 (fin false n d))) (t : T (isRoot (fin false (suc m) e) (fin false p c))) where
+module _ (m : ℕ) (e : ℤ) (p : ℕ) (c : ℤ) (n : ℕ) (d : ℤ) (f : T (fits binary32 (fin false p c))) (g : T (fits binary32 (fin false n d)))
+    (t : T (isRoot (fin false (suc m) e) (fin false p c))) where
   abbrev x : ℕ
   x = suc m * up e
 
@@ -105,10 +109,12 @@ module _ (m : ℕ) (e : ℤ) (p : ℕ) (c : ℤ) (n : ℕ) (d : ℤ) (f : T (fit
   some : 0 < down c * down d * (down c * down d)
   some = mul-pos (mul-pos (down-pos c) (down-pos d)) (mul-pos (down-pos c) (down-pos d))
 
-  pub closer-than-above : T (lt (fin false p c) (fin false n d)) → 4 * (suc m * up e) * sq (down c * down d) < sq (p * up c * down d + n * up d * down c) * down e
+  pub closer-than-above : T (lt (fin false p c) (fin false n d)) → 4 * (suc m * up e) * sq (down c * down d) < sq
+      (p * up c * down d + n * up d * down c) * down e
   closer-than-above h = cancel (2 ^ 149 * 2 ^ 149) _ some left right (nearer-above (x * 2 ^ 298) (down e) r (down-pos e) met y (patterns p n c d f g h))
 
-  pub closer-than-below : T (lt (fin false n d) (fin false p c)) → sq (p * up c * down d + n * up d * down c) * down e < 4 * (suc m * up e) * sq (down c * down d)
+  pub closer-than-below : T (lt (fin false n d) (fin false p c)) → sq (p * up c * down d + n * up d * down c) * down e < 4 * (suc m * up e) * sq
+      (down c * down d)
   closer-than-below h = cancel (2 ^ 149 * 2 ^ 149) _ some right left (nearer-below (x * 2 ^ 298) (down e) r (down-pos e) met y (patterns n p d c g f h))
 
 -- y = -n * up d / down d, below zero: √x is above (r + y) / 2, since it is above r / 2 already
@@ -127,7 +133,8 @@ module _ (m : ℕ) (e : ℤ) (p : ℕ) (c : ℤ) (n : ℕ) (d : ℤ) (f : T (fit
   less : (p * up c * down d - n * up d * down c) * 2 ^ 149 ≤ (units pattern + units 0) * dens
   less =
       le-trans (mul-le-mul-right (2 ^ 149) (sub-le (p * up c * down d) (n * up d * down c)))
-      (le-of-eq (mul-right-comm (p * up c) (down d) (2 ^ 149) ∙ ap (λ (u : ℕ). u * down d) (unit-size p c f) ∙ mul-assoc (units pattern) (down c) (down d) ∙ ap (λ (u : ℕ). u * dens) (sym (add-zero (units pattern)))))
+      (le-of-eq (mul-right-comm (p * up c) (down d) (2 ^ 149) ∙ ap (λ (u : ℕ). u * down d) (unit-size p c f)
+      ∙ mul-assoc (units pattern) (down c) (down d) ∙ ap (λ (u : ℕ). u * dens) (sym (add-zero (units pattern)))))
 
   pub closer-than-negative : sq (p * up c * down d - n * up d * down c) * down e < 4 * (suc m * up e) * sq (down c * down d)
   closer-than-negative =
@@ -138,7 +145,8 @@ module _ (m : ℕ) (e : ℤ) (p : ℕ) (c : ℤ) (n : ℕ) (d : ℤ) (f : T (fit
       let back : u * dens * (u * dens) * down e ≡ sq u * down e * (dens * dens) = simp (mul-assoc, mul-comm, mul-left-comm) in
       lt-of-mul-lt-mul-right (k * k)
       (lt-of-le-of-lt (le-trans (le-of-eq moved) (le-trans (mul-le-mul-right (down e) (mul-le-mul less less)) (le-of-eq back)))
-      (lt-of-lt-of-le (mul-lt-mul-of-pos-right above-half (mul-pos (mul-pos (down-pos c) (down-pos d)) (mul-pos (down-pos c) (down-pos d)))) (le-of-eq (sym (four (suc m * up e) dens k)))))
+      (lt-of-lt-of-le (mul-lt-mul-of-pos-right above-half (mul-pos (mul-pos (down-pos c) (down-pos d)) (mul-pos (down-pos c) (down-pos d))))
+      (le-of-eq (sym (four (suc m * up e) dens k)))))
 
 -- and the root of such an x is finite and not negative, so that it has that form
 pub root-plain : (m : ℕ) (e : ℤ) (r : Float) → T (fits binary32 r) → T (isRoot (fin false (suc m) e) r) → plain r ≡ true

@@ -1,9 +1,10 @@
--- A pattern r that passes `rootBits` stands for the value nearest to the root: for any other pattern y, with R and Y for their units, the root is on R's side of (R + Y) / 2.
--- So at most one pattern passes. Assumes nothing.
+-- A pattern r that passes `rootBits` stands for the value nearest to the root: for any other pattern y, with R and Y for their units, the root is on
+-- R's side of (R + Y) / 2. So at most one pattern passes. Assumes nothing.
 use mathlib.Core.Path.{_≡_, sym, ap, _∙_, subst, subst⁻¹}
 use mathlib.Core.Logic.{_⊎_, inl, inr}
 use Prim.Native.Nat.{ℕ, suc, _+_, _*_, _^_, _≤_, _<_}
-use native.Mathlib.Nat.{le-trans, le-of-eq, le-of-lt, lt-of-lt-of-le, lt-of-le-of-lt, eq-or-lt-of-le, mul-assoc, mul-one, add-mul, mul-le-mul, mul-le-mul-left, mul-le-mul-right, mul-lt-mul-of-pos-right, mul-mul-mul-comm, pow-succ', add-comm}
+use native.Mathlib.Nat.{le-trans, le-of-eq, le-of-lt, lt-of-lt-of-le, lt-of-le-of-lt, eq-or-lt-of-le, mul-assoc, mul-one, add-mul, mul-le-mul}
+use native.Mathlib.Nat.{mul-le-mul-left, mul-le-mul-right, mul-lt-mul-of-pos-right, mul-mul-mul-comm, pow-succ', add-comm}
 use native.Mathlib.Omega.{arith}
 use lib.Pow.{pow-pos, pow-mono}
 use Rattle.root.specs.Root.{sq, sig, place, units, lower, upper}
@@ -45,13 +46,15 @@ below : (r y : ℕ) → 8388608 ≤ r → y < r → ((sig y + 1 ≤ sig r) × (u
 below r y n h =
     let k = place r in
     elim (split y 8388608) [
-      | inl g ↦ inr (subst⁻¹ (λ (u : ℕ). u < 8388608 * 2 ^ k) (units-low y g) (lt-of-lt-of-le g (le-trans (le-of-eq (sym (mul-one 8388608))) (mul-le-mul-left 8388608 (pow-pos k)))))
+      | inl g ↦ inr (subst⁻¹ (λ (u : ℕ). u < 8388608 * 2 ^ k) (units-low y g)
+          (lt-of-lt-of-le g (le-trans (le-of-eq (sym (mul-one 8388608))) (mul-le-mul-left 8388608 (pow-pos k)))))
       | inr g ↦
           elim (eq-or-lt-of-le (places y r (le-of-lt h))) [
             | inl e ↦ inl (digits y r g h e, units-high y g ∙ ap (λ (x : ℕ). sig y * 2 ^ x) e)
             | inr l ↦
                 inr (subst⁻¹ (λ (u : ℕ). u < 8388608 * 2 ^ k) (units-high y g)
-                (lt-of-lt-of-le (mul-lt-mul-of-pos-right (most y) (pow-pos (place y))) (le-trans (le-of-eq (double (place y))) (mul-le-mul-left 8388608 (pow-mono l)))))
+                (lt-of-lt-of-le (mul-lt-mul-of-pos-right (most y) (pow-pos (place y)))
+                (le-trans (le-of-eq (double (place y))) (mul-le-mul-left 8388608 (pow-mono l)))))
           ]
     ]
 
@@ -87,7 +90,8 @@ module _ (a c r : ℕ) (p : 0 < c) (t : Rooted a c r) where
       elim (below r y (t .lo) h) [
         | inl w ↦
             lt-of-le-of-lt
-            (square-le c (subst⁻¹ (λ (u : ℕ). units r + u ≤ lower q * p2) (w .1) (subst⁻¹ (λ (u : ℕ). u + sig y * p2 ≤ lower q * p2) R (near q (sig y) p2 (w .0)))))
+            (square-le c (subst⁻¹ (λ (u : ℕ). units r + u ≤ lower q * p2) (w .1) (subst⁻¹ (λ (u : ℕ). u + sig y * p2 ≤ lower q * p2) R
+            (near q (sig y) p2 (w .0)))))
             (t .is .over)
         | inr w ↦
             elim (eq-or-lt-of-le (least r)) [

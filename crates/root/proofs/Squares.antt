@@ -1,7 +1,8 @@
 -- Products, neighbouring squares, and the whole number nearest to a root. Assumes nothing.
 use mathlib.Core.Path.{_≡_, subst}
 use Prim.Native.Nat.{ℕ, zero, suc, _+_, _-_, _*_, _≤_, _<_}
-use native.Mathlib.Nat.{le-of-lt, lt-of-le-of-lt, lt-of-not-le, mul-add, add-mul, mul-le-mul, mul-le-mul-left, mul-le-mul-right, mul-lt-mul-of-pos-right, mul-mul-mul-comm}
+use native.Mathlib.Nat.{le-of-lt, lt-of-le-of-lt, lt-of-not-le, mul-add, add-mul, mul-le-mul, mul-le-mul-left, mul-le-mul-right}
+use native.Mathlib.Nat.{mul-lt-mul-of-pos-right, mul-mul-mul-comm}
 use native.Mathlib.Omega.{arith}
 
 pub product : {a b k l : ℕ} → a < k → b < l → a * b < k * l

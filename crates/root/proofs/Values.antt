@@ -2,7 +2,8 @@
 use mathlib.Core.Path.{_≡_, refl, sym, ap, _∙_, subst, subst⁻¹}
 use mathlib.Core.Logic.{inl, inr}
 use Prim.Native.Nat.{ℕ, zero, suc, _+_, _*_, _/_, _%_, _^_, _≤_, _<_}
-use native.Mathlib.Nat.{le-trans, le-of-eq, lt-of-lt-of-le, lt-of-le-of-lt, mul-assoc, mul-right-comm, mul-one, mul-le-mul-right, mul-lt-mul-of-pos-right, mod-eq-of-lt, mul-pos, zero-mul}
+use native.Mathlib.Nat.{le-trans, le-of-eq, lt-of-lt-of-le, lt-of-le-of-lt, mul-assoc, mul-right-comm, mul-one, mul-le-mul-right}
+use native.Mathlib.Nat.{mul-lt-mul-of-pos-right, mod-eq-of-lt, mul-pos, zero-mul}
 use native.Mathlib.Omega.{arith}
 use mathlib.Core.Bool.{Bool, true, false, not, cond, true≢false}
 use lib.IntN.{ℤ}
@@ -51,7 +52,8 @@ subnormal b h =
     let no-field : b / 8388608 ≡ 0 = omega arith in
     let whole : b % 8388608 ≡ b = omega arith in
     subst⁻¹ (λ (x : Float). HasValue x false (units b) (2 ^ 149))
-    (positive-is b (omega arith) ∙ ap (λ (x : ℕ). ofFields binary32 false x (b % 8388608)) no-field ∙ ap (λ (t : ℕ). ofFields binary32 false 0 t) whole ∙ at-zero b)
+    (positive-is b (omega arith) ∙ ap (λ (x : ℕ). ofFields binary32 false x (b % 8388608)) no-field
+    ∙ ap (λ (t : ℕ). ofFields binary32 false 0 t) whole ∙ at-zero b)
     (subst (λ (u : ℕ). HasValue (odd 24 false b 0 149) false u (2 ^ 149)) (mul-one b ∙ sym (units-low b h)) (odd-sign 24 false b 0 149))
 
 normal : (b : ℕ) → 8388608 ≤ b → b < 2139095040 → HasValue (ofBits binary32 b) false (units b) (2 ^ 149)
@@ -118,7 +120,8 @@ plain-bits v f p = elim (split (toBits binary32 v) 2139095040) [
 pub unit-size : (n : ℕ) (d : ℤ) → T (fits binary32 (fin false n d)) → n * up d * 2 ^ 149 ≡ units (toBits binary32 (fin false n d)) * down d
 unit-size n d f =
     let v = fin false n d in
-    subst (λ (w : Float). HasValue w false (units (toBits binary32 v)) (2 ^ 149)) (ofBits-toBits binary32 v f) (value (toBits binary32 v) (plain-bits v f refl)) .1
+    subst (λ (w : Float). HasValue w false (units (toBits binary32 v)) (2 ^ 149)) (ofBits-toBits binary32 v f)
+    (value (toBits binary32 v) (plain-bits v f refl)) .1
 
 -- ---- the tests with a denominator
 pub same-size : (m d u : ℕ) → m * 2 ^ 149 ≡ u * d → u * 2 ^ 149 * d ≡ m * 2 ^ 298
@@ -166,4 +169,5 @@ pub of-bits : (x : Float) (b r : ℕ) → ofBits binary32 b ≡ x → 0 < b → 
 of-bits x b r e p h t =
     let below = facts (units b * 2 ^ 149) 1 r t .hi in
     let written = toBits-ofBits binary32 r (omega arith) (no-nan r below) in
-    subst (λ (z : Float). T (isRoot z (ofBits binary32 r))) e (of-value (ofBits binary32 b) (ofBits binary32 r) (units b) r (value b h) (units-pos b p) written t)
+    subst (λ (z : Float). T (isRoot z (ofBits binary32 r))) e (of-value (ofBits binary32 b) (ofBits binary32 r) (units b) r (value b h)
+    (units-pos b p) written t)

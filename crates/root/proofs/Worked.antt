@@ -1,8 +1,10 @@
--- The two statements of the contract agree: `rootOf x`, which antt can compute, passes `isRoot x`, and so it is what any value that passes is equal to. Assumes nothing.
+-- The two statements of the contract agree: `rootOf x`, which antt can compute, passes `isRoot x`, and so it is what any value that passes is equal
+-- to. Assumes nothing.
 use mathlib.Core.Path.{_≡_, refl, sym, ap, _∙_, subst, subst⁻¹}
 use mathlib.Core.Logic.{inl, inr}
 use Prim.Native.Nat.{ℕ, zero, suc, _+_, _-_, _*_, _/_, _^_, _≤_, _<_}
-use native.Mathlib.Nat.{le-trans, le-of-eq, lt-of-lt-of-le, lt-of-le-of-lt, lt-of-not-le, lt-irrefl, mul-mul-mul-comm, mul-le-mul-right, mul-lt-mul-of-pos-right, mul-pos, mul-div-cancel, pow-succ'}
+use native.Mathlib.Nat.{le-trans, le-of-eq, lt-of-lt-of-le, lt-of-le-of-lt, lt-of-not-le, lt-irrefl, mul-mul-mul-comm, mul-le-mul-right}
+use native.Mathlib.Nat.{mul-lt-mul-of-pos-right, mul-pos, mul-div-cancel, pow-succ'}
 use native.Mathlib.Omega.{arith}
 use mathlib.Core.Bool.{Bool, true, false, not, cond}
 use lib.IntN.{ℤ}
@@ -79,9 +81,13 @@ cut : (n N k : ℕ) → 70368744177664 ≤ N → N ≤ 281474959933440 → n ≡
 cut n N k lo hi e =
     let p = 2 ^ k * 2 ^ k in
     let s : 2 ^ (k + k) ≡ p = pow-add 2 k k in
-    let low : 2 ^ (46 + (k + k)) ≤ n = le-trans (le-of-eq (pow-add 2 46 (k + k) ∙ ap (λ (x : ℕ). 2 ^ 46 * x) s)) (le-trans (mul-le-mul-right p lo) (le-of-eq (sym e))) in
-    let high : n < 2 ^ (48 + (k + k)) = lt-of-le-of-lt (le-of-eq e) (lt-of-lt-of-le (mul-lt-mul-of-pos-right (room N hi) (mul-pos (pow-pos k) (pow-pos k))) (le-of-eq (sym (pow-add 2 48 (k + k) ∙ ap (λ (x : ℕ). 2 ^ 48 * x) s)))) in
-    between (size n) k (lt-of-not-le (λ (g : size n ≤ 46 + (k + k)). lt-irrefl n (lt-of-lt-of-le (size-lt n) (le-trans (pow-mono g) low)))) (size-le n (48 + (k + k)) high)
+    let low : 2 ^ (46 + (k + k)) ≤ n = le-trans (le-of-eq (pow-add 2 46 (k + k) ∙ ap (λ (x : ℕ). 2 ^ 46 * x) s))
+    (le-trans (mul-le-mul-right p lo) (le-of-eq (sym e))) in
+    let high : n < 2 ^ (48 + (k + k)) =
+    lt-of-le-of-lt (le-of-eq e) (lt-of-lt-of-le (mul-lt-mul-of-pos-right (room N hi) (mul-pos (pow-pos k) (pow-pos k)))
+    (le-of-eq (sym (pow-add 2 48 (k + k) ∙ ap (λ (x : ℕ). 2 ^ 48 * x) s)))) in
+    between (size n) k (lt-of-not-le (λ (g : size n ≤ 46 + (k + k)). lt-irrefl n (lt-of-lt-of-le (size-lt n) (le-trans (pow-mono g) low))))
+    (size-le n (48 + (k + k)) high)
   where
     room : (N : ℕ) → N ≤ 281474959933440 → N < 2 ^ 48
     room N h = omega arith
@@ -119,7 +125,8 @@ of-pattern b p h = elim (split b 8388608) [
 opened : (m : ℕ) (e : ℤ) (u : ℕ) → suc m * up e * 2 ^ 149 ≡ u * down e → rootOf (fin false (suc m) e) ≡ ofBits binary32 (pattern (u * 2 ^ 149))
 unfolding rootOf
 opened m e u h =
-    ap (λ (n : ℕ). ofBits binary32 (pattern n)) (ap (λ (x : ℕ). x / down e) (sym (same-size (suc m * up e) (down e) u h)) ∙ mul-div-cancel (u * 2 ^ 149) (down-pos e))
+    ap (λ (n : ℕ). ofBits binary32 (pattern n)) (ap (λ (x : ℕ). x / down e) (sym (same-size (suc m * up e) (down e) u h))
+    ∙ mul-div-cancel (u * 2 ^ 149) (down-pos e))
 
 finite : (m : ℕ) (e : ℤ) → T (fits binary32 (fin false (suc m) e)) → T (isRoot (fin false (suc m) e) (rootOf (fin false (suc m) e)))
 finite m e f =

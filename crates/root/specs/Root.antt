@@ -1,7 +1,7 @@
--- The square root of a binary32 number. The rule: for a finite positive number the nearest binary32, as a statement on squares of whole numbers; the root of a subnormal begins
--- from its leading zeros. Either zero gives itself; a number below zero and any NaN give 7fc00000; plus infinity gives itself.
--- The rule is said twice: `isRoot x r` tests a result, and `rootOf x` works it out. proofs/Worked.antt shows that they agree, and proofs/Closest.antt that the tests find the nearest.
--- Definitions only.
+-- The square root of a binary32 number. The rule: for a finite positive number the nearest binary32, as a statement on squares of whole numbers; the
+-- root of a subnormal begins from its leading zeros. Either zero gives itself; a number below zero and any NaN give 7fc00000; plus infinity gives
+-- itself. The rule is said twice: `isRoot x r` tests a result, and `rootOf x` works it out. proofs/Worked.antt shows that they agree, and
+-- proofs/Closest.antt that the tests find the nearest. Definitions only.
 use Prim.Native.Nat.{ℕ, zero, suc, _+_, _-_, _*_, _/_, _%_, _^_}
 use mathlib.Core.Bool.{Bool, true, false, _&&_, Bool·beq, cond}
 use lib.Dec.{leb, ltb}

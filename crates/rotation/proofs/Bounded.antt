@@ -46,7 +46,8 @@ transpose-below p =
       row2 = record { on-x = p .row0 .on-z; on-y = p .row1 .on-z; on-z = p .row2 .on-z };
     }
 
-pub mul-mv-below : {j k : ℕ} {m : Rows} {v : Vec3} → T (leb (suc (suc (j + k))) 127) → RowsBelow j m → VecBelow k v → VecBelow (suc (suc (j + k))) (mulMvOf m v)
+pub mul-mv-below : {j k : ℕ} {m : Rows} {v : Vec3} → T (leb (suc (suc (j + k))) 127) → RowsBelow j m → VecBelow k v
+    → VecBelow (suc (suc (j + k))) (mulMvOf m v)
 unfolding mulMvOf
 mul-mv-below {j} {k} {m} {v} t p q = record { on-x = along (p .row0); on-y = along (p .row1); on-z = along (p .row2) }
   where

@@ -29,7 +29,8 @@ rowsOf x y z w =
     ∷ ((two ⊗ (x ⊗ z ⊖ y ⊗ w)) ∷ (two ⊗ (y ⊗ z ⊕ x ⊗ w)) ∷ (one ⊖ two ⊗ (x ⊗ x ⊕ y ⊗ y)) ∷ [])
     ∷ []
 
--- with xx = x*x, xy = x*y, xw = x*w and so on: rows (1 - 2*(yy + zz), 2*(xy - zw), 2*(xz + yw)), (2*(xy + zw), 1 - 2*(xx + zz), 2*(yz - xw)), (2*(xz - yw), 2*(yz + xw), 1 - 2*(xx + yy))
+-- with xx = x*x, xy = x*y, xw = x*w and so on: rows (1 - 2*(yy + zz), 2*(xy - zw), 2*(xz + yw)), (2*(xy + zw), 1 - 2*(xx + zz), 2*(yz - xw)), (2*(xz
+-- - yw), 2*(yz + xw), 1 - 2*(xx + yy))
 unfoldable pub matrixOf : Quat → Rows
 matrixOf q = rowsOf (q .v .x) (q .v .y) (q .v .z) (q .s)
 

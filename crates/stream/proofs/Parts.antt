@@ -6,9 +6,9 @@ use mathlib.Core.List.{List, [], _∷_, _++_, append-assoc, append-nil}
 use lib.Dec.{eqb}
 use lib.ListN.{length, take}
 use lib.Seq.{append-snoc}
-use Rattle.holding.specs.Ends.{lineEnd, toEnd}
+use Rattle.stream_pending.specs.Ends.{lineEnd, toEnd}
 use Rattle.stream.specs.Told.{lineTold, told, heldAfter}
-use Rattle.holding.proofs.Scans.{ended}
+use Rattle.stream_pending.proofs.Scans.{ended}
 
 told-first : (t : Bool) (l p q p′ q′ h h′ b : List ℕ) → p ≡ p′ ++ told h b → q ≡ q′ ++ told h′ b
     → cond t (l ++ p) q ≡ cond t (l ++ p′) q′ ++ told (cond t h h′) b

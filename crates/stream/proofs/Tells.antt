@@ -8,20 +8,20 @@ use native.Mathlib.Omega.{arith}
 use lib.ListN.{length, take, drop, set, length-append, length-drop, drop-of-length-le}
 use borrow.Rule.Slice.PartMut.{putMid}
 use lib.Seq.{set-at, drop-cons, take-at, drop-at, drop-drop, take-add, take-all, append-snoc}
-use Rattle.hex.specs.Hex.{hexOf}
+use Rattle.frame_hex.specs.Hex.{hexOf}
 use Rattle.frame.specs.Answers.{Answers}
 use Rattle.frame.specs.Frames.{faultOf}
 use Rattle.frame.specs.Lines.{lineAnswer}
 use Rattle.frame.proofs.Lengths.{line-length, line-long}
-use Rattle.holding.specs.declared.Pending.{Pending}
+use Rattle.stream_pending.specs.declared.Pending.{Pending}
 use Rattle.stream.specs.declared.Part.{Part}
-use Rattle.holding.specs.Ends.{lineEnd, toEnd}
+use Rattle.stream_pending.specs.Ends.{lineEnd, toEnd}
 use Rattle.stream.specs.Told.{lineTold, told, heldAfter, toldLast}
-use Rattle.holding.specs.Held.{Ready, nothing, Grows}
+use Rattle.stream_pending.specs.Held.{Ready, nothing, Grows}
 use Rattle.stream.specs.Tells.{Puts, Tells}
-use Rattle.holding.proofs.Scans.{toEnd-most}
+use Rattle.stream_pending.proofs.Scans.{toEnd-most}
 use Rattle.stream.proofs.Parts.{told-append, held-append, quiet-told, quiet-held, line-told, line-held}
-use Rattle.holding.proofs.Holds.{held-none, nothing-held, something-held}
+use Rattle.stream_pending.proofs.Holds.{held-none, nothing-held, something-held}
 
 answers-same : {vs ws o o′ : List ℕ} {r : ℕ} → Answers vs o r o′ → vs ≡ ws → Answers ws o r o′
 answers-same {o = o} a e = record { count = a .count ∙ ap length e; bytes = a .bytes ∙ ap (λ l. l ++ drop (length l) o) e }
@@ -57,7 +57,8 @@ answer-most xs a = omega (arith, a .count, line-length xs)
 pub puts-long : {line o o′ : List ℕ} {p : Pending} {r : ℕ} → p .over ≡ true → Answers (hexOf (faultOf 0x24)) o r o′ → Puts lineAnswer line p o r o′
 puts-long e a = record { puts = λ xs h. answers-same a (sym (line-long xs (h .long e))) }
 
-pub puts-kept : {line o o′ : List ℕ} {p : Pending} {r : ℕ} → p .over ≡ false → Answers (lineAnswer (take (p .len) line)) o r o′ → Puts lineAnswer line p o r o′
+pub puts-kept : {line o o′ : List ℕ} {p : Pending} {r : ℕ} → p .over ≡ false → Answers (lineAnswer (take (p .len) line)) o r o′
+    → Puts lineAnswer line p o r o′
 puts-kept e a = record { puts = λ xs h. answers-same a (ap lineAnswer (sym (h .kept e))) }
 
 pub puts-whole : (part : List ℕ) {line o o′ : List ℕ} {p : Pending} {r : ℕ} → nothing p ≡ true → Answers (lineAnswer part) o r o′
@@ -98,7 +99,10 @@ tells-line {rest} {line} {line′} {n = n} e l r a =
       taken = omega arith;
       ready = record { room = r; most = omega arith };
       held = λ xs h. rw (e, line-held xs rest (rw e at l)) (held-none line′);
-      puts = record { puts = λ xs h. answers-same (a .puts xs h) (ap (λ j. lineTold (xs ++ take j rest)) e ∙ (sym (line-told xs rest (rw e at l)) ∙ ap (λ j. told xs (take (j + 1) rest)) (sym e))) };
+      puts = record {
+        puts = λ xs h. answers-same (a .puts xs h) (ap (λ j. lineTold (xs ++ take j rest)) e
+            ∙ (sym (line-told xs rest (rw e at l)) ∙ ap (λ j. told xs (take (j + 1) rest)) (sym e)));
+      };
     }
 
 -- what there is of it
@@ -110,9 +114,13 @@ tells-rest {rest} {line} {line′} {o} {p} {q} {n} e l g =
       taken = omega (arith, toEnd-most rest);
       ready = g .ready;
       held = λ xs h.
-          let f : heldAfter xs (take n rest) ≡ xs ++ rest = ap (λ j. heldAfter xs (take j rest)) e ∙ (quiet-held xs rest ∙ (ap (λ j. xs ++ take j rest) (sym e) ∙ ap (λ x. xs ++ x) t)) in
+          let f : heldAfter xs (take n rest) ≡ xs ++ rest = ap (λ j. heldAfter xs (take j rest)) e
+          ∙ (quiet-held xs rest ∙ (ap (λ j. xs ++ take j rest) (sym e) ∙ ap (λ x. xs ++ x) t)) in
           rw f (g .held xs h);
-      puts = record { puts = λ xs h. answers-same {vs = []} (record { count = refl; bytes = refl }) (sym (ap (λ j. told xs (take j rest)) e ∙ quiet-told xs rest)) };
+      puts = record {
+        puts = λ xs h. answers-same {vs = []} (record { count = refl; bytes = refl })
+            (sym (ap (λ j. told xs (take j rest)) e ∙ quiet-told xs rest));
+      };
     }
 
 -- nothing yet
@@ -150,7 +158,8 @@ pub tells-next : {chunk line l1 l2 o o1 o2 : List ℕ} {p q : Pending} {i n : �
 tells-next {chunk} {line} {l1} {l2} {o} {o1} {o2} {p} {q} {i} {n} {t} h a b =
     let f : Tells (drop i chunk) l1 q (drop n o1) t l2 o2 = rw (rest-is i chunk, rest-is n o1) at b in
     let d : length (drop n o1) ≤ length o1 - n = simp length-drop (omega arith) in
-    let e : putMid n (length o1 - n) o1 o2 ≡ take n o1 ++ o2 = ap (λ x. take n o1 ++ (o2 ++ x)) (drop-of-length-le (drop n o1) d) ∙ ap (λ x. take n o1 ++ x) (append-nil o2) in
+    let e : putMid n (length o1 - n) o1 o2 ≡ take n o1 ++ o2 = ap (λ x. take n o1 ++ (o2 ++ x)) (drop-of-length-le (drop n o1) d)
+    ∙ ap (λ x. take n o1 ++ x) (append-nil o2) in
     rw e (tells-then a f)
 
 -- a part that ends with room left has an end, and is no empty part

@@ -2,8 +2,8 @@
 use Prim.Native.Nat.{ℕ, _≤_}
 use mathlib.Core.List.{List}
 use lib.ListN.{length, take}
-use Rattle.holding.specs.declared.Pending.{Pending}
-use Rattle.holding.specs.Held.{Ready, Held}
+use Rattle.stream_pending.specs.declared.Pending.{Pending}
+use Rattle.stream_pending.specs.Held.{Ready, Held}
 use Rattle.frame.specs.Answers.{Answers}
 use Rattle.stream.specs.declared.Part.{Part}
 use Rattle.stream.specs.Told.{told, heldAfter}

@@ -1,10 +1,11 @@
--- What the program tells: "reads standard input, one frame a line of lowercase hexadecimal (the last may lack its line end), and prints one line for each" (document 01,
--- "The hex program"). The input comes in parts, cut anywhere: xs are always the characters that were read since the last line end. Definitions only.
+-- What the program tells: "reads standard input, one frame a line of lowercase hexadecimal (the last may lack its line end), and prints one line for
+-- each" (document 01, "The hex program"). The input comes in parts, cut anywhere: xs are always the characters that were read since the last line
+-- end. Definitions only.
 use Prim.Native.Nat.{ℕ}
 use mathlib.Core.Bool.{cond}
 use mathlib.Core.List.{List, [], _∷_, _++_}
 use lib.Dec.{eqb}
-use Rattle.holding.specs.Ends.{lineEnd}
+use Rattle.stream_pending.specs.Ends.{lineEnd}
 use Rattle.frame.specs.Lines.{lineAnswer}
 
 -- "one line for each": its answer, and a line end

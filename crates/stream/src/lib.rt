@@ -1,5 +1,5 @@
 // The lines of an input that comes in parts, cut anywhere, and the answer to each, told as soon as it has ended: specs/Told.antt says what is told; how the
-// characters of an unfinished line are held is `holding`'s. Nothing here reads or writes.
+// characters of an unfinished line are held is `stream_pending`'s. Nothing here reads or writes.
 //
 // Lines are found by a scan of the part. One that lies whole in it is answered from there; only one that began in an earlier part is copied together first.
 ghost use mathlib.Core.Bool.{true, false};
@@ -10,18 +10,18 @@ ghost use lib.ListN.{length, set};
 ghost use Rattle.frame.specs.Answers.{Answers};
 ghost use Rattle.frame.specs.Frames.{faultOf};
 ghost use Rattle.frame.specs.Lines.{lineAnswer};
-ghost use Rattle.hex.specs.Hex.{hexOf};
-ghost use Rattle.holding.specs.Held.{Ready};
+ghost use Rattle.frame_hex.specs.Hex.{hexOf};
+ghost use Rattle.stream_pending.specs.Held.{Ready};
 ghost use Rattle.stream.specs.Tells.{Puts, Tells};
 ghost use Rattle.stream.specs.Told.{lineTold, toldLast};
-use encode::put_byte;
 use frame::lines::line_answer;
-use holding::Pending;
-use holding::end_line;
-use holding::goes_on;
-use holding::hold;
-use holding::is_nothing;
-use holding::line_end;
+use frame_encode::put_byte;
+use stream_pending::Pending;
+use stream_pending::end_line;
+use stream_pending::goes_on;
+use stream_pending::hold;
+use stream_pending::is_nothing;
+use stream_pending::line_end;
 
 // How many characters were told, what is held behind them, and how many places the answers take.
 pub struct Part {
@@ -90,7 +90,8 @@ pub fn tell_last(line: &[u8], p: Pending, out: &mut [u8]) -> usize
 // The next line of what was read, or what there is of it.
 fn tell_next(rest: &[u8], line: &mut [u8], p: Pending, out: &mut [u8]) -> Part
     requires { ⌜ (0 < length (now rest)) × Ready (now line) p × (207 ≤ length (now out)) ⌝ }
-    ensures { λ r. ⌜ (0 < r .taken) × (r .count ≤ 207) × Tells (now (rest .entry)) (now (line .entry)) p (now (out .entry)) r (now (line .exit)) (now (out .exit)) ⌝ }
+    ensures { λ r. ⌜ (0 < r .taken) × (r .count ≤ 207) × Tells (now (rest .entry)) (now (line .entry)) p (now (out .entry)) r (now (line .exit))
+        (now (out .exit)) ⌝ }
 {
     let n = line_end(rest);
     if n < rest.len() {
@@ -115,7 +116,8 @@ fn tell_next(rest: &[u8], line: &mut [u8], p: Pending, out: &mut [u8]) -> Part
 // What was read, to its end or until the next answer may find too little room: the answers stand in `out` from the first place on, in order.
 pub fn tell_part(chunk: &[u8], line: &mut [u8], p: Pending, out: &mut [u8]) -> Part
     requires { ⌜ (0 < length (now chunk)) × Ready (now line) p × (207 ≤ length (now out)) ⌝ }
-    ensures { λ r. ⌜ (0 < r .taken) × (r .count ≤ length (now (out .entry))) × (r .taken < length (now (chunk .entry)) → length (now (out .entry)) < r .count + 207)
+    ensures { λ r. ⌜ (0 < r .taken) × (r .count ≤ length (now (out .entry)))
+        × (r .taken < length (now (chunk .entry)) → length (now (out .entry)) < r .count + 207)
         × Tells (now (chunk .entry)) (now (line .entry)) p (now (out .entry)) r (now (line .exit)) (now (out .exit)) ⌝ }
 {
     let mut i = 0;

@@ -29,18 +29,21 @@ not-less (fin false m e) = not-below-itself (m * up e * down e)
 
 module _ (xs ys zs : List Float) (d : Vec3) where
   -- the first turn looks at vertex 0, and leaves it
-  pub first-turn : (value : Float) → value ≡ dotOf d (vertexIn xs ys zs 0) → _≡_ {A = Farthest} (record { vertex = 0; value = value }) (farthestOf xs ys zs d 1)
+  pub first-turn : (value : Float) → value ≡ dotOf d (vertexIn xs ys zs 0) → _≡_ {A = Farthest} (record { vertex = 0; value = value })
+      (farthestOf xs ys zs d 1)
   unfolding farthestOf fartherOf
   first-turn value e = rw (e, not-less)
 
-  pub turn : (i : ℕ) (best next : Farthest) (value : Float) → best ≡ farthestOf xs ys zs d i → value ≡ dotOf d (vertexIn xs ys zs i) → next ≡ fartherOf best i value
+  pub turn : (i : ℕ) (best next : Farthest) (value : Float) → best ≡ farthestOf xs ys zs d i → value ≡ dotOf d (vertexIn xs ys zs i)
+      → next ≡ fartherOf best i value
       → next ≡ farthestOf xs ys zs d (i + 1)
   unfolding farthestOf
   turn i best next value b v n = n ∙ rw (b, v, add-one)
 
   next-below : (n : ℕ) → farthestOf xs ys zs d (suc n) .vertex < suc n
   unfolding farthestOf fartherOf
-  next-below zero = picked (λ (best : Farthest). best .vertex < 1) (lt (dotOf d (vertexIn xs ys zs 0)) (dotOf d (vertexIn xs ys zs 0))) (omega arith) (omega arith)
+  next-below zero = picked (λ (best : Farthest). best .vertex < 1) (lt (dotOf d (vertexIn xs ys zs 0)) (dotOf d (vertexIn xs ys zs 0)))
+      (omega arith) (omega arith)
   next-below (suc n) =
       picked (λ (best : Farthest). best .vertex < suc (suc n)) (lt (farthestOf xs ys zs d (suc n) .value) (dotOf d (vertexIn xs ys zs (suc n))))
       (omega arith) (omega (arith, next-below n))

@@ -1,6 +1,7 @@
 // Vectors of three numbers: sums go left to right over x, y, z.
 ghost use mathlib.Core.Path.{_≡_};
-ghost use Rattle.vector.specs.Arithmetic.{addOf, subOf, negOf, absVecOf, dotOf, crossOf, lengthSquaredOf, mulSvOf, mulAddOf, mulSubOf, lerpOf, normalizeOf};
+ghost use Rattle.vector.specs.Arithmetic.{addOf, subOf, negOf, absVecOf, dotOf, crossOf, lengthSquaredOf, mulSvOf, mulAddOf, mulSubOf, lerpOf};
+ghost use Rattle.vector.specs.Arithmetic.{normalizeOf};
 use crate::Vec3;
 use crate::scalar::abs_float;
 

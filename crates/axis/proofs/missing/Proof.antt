@@ -1,7 +1,7 @@
 -- `missing`: the case of what is wanted picks the definition's.
 use Rattle.axis.specs.Search.{missingOf}
 use Rattle.axis.specs.declared.Wanted.{Wanted}
-use Rattle.leads.specs.declared.Lead.{Lead}
+use Rattle.axis_best.specs.declared.Lead.{Lead}
 use mathlib.Core.Bool.{not}
 use mathlib.Core.Path.{sym, ap, _∙_}
 use borrow.Author.Needs.{needs}
@@ -26,7 +26,8 @@ enum-told-4 c = search needs
 returns : tie.Need-returns
 unfolding missingOf
 returns c = let x = c .before .before .before .before .args in
-    ap (λ (l : Lead). not (l .found)) (c .before .winner .ensures) ∙ sym (ap (λ (w : Wanted). missingOf w (x .a) (x .b)) (c .before .before .enum-told .given .1))
+    ap (λ (l : Lead). not (l .found)) (c .before .winner .ensures)
+    ∙ sym (ap (λ (w : Wanted). missingOf w (x .a) (x .b)) (c .before .before .enum-told .given .1))
 
 returns-2 : tie.Need-returns-2
 unfolding missingOf

@@ -1,7 +1,7 @@
 -- The incident face is in range.
 use Rattle.clip.specs.Candidates.{candidatesOf}
 use Rattle.hull.proofs.Hulls.{below}
-use Rattle.incident.proofs.Fans.{incident-in}
+use Rattle.clip_incident.proofs.Fans.{incident-in}
 use borrow.Author.Needs.{needs}
 use Rattle.clip.proofs.candidates.Statement.{statement}
 use Rattle.clip.proofs.candidates.Tie as tie
@@ -21,7 +21,12 @@ clip-to-face-requires c κs = let p = c .before .before .before .before .before 
 
 returns : tie.Need-returns
 unfolding candidatesOf
-returns c = simp (c .clip-to-face .ensures, c .before .find-incident-face .ensures, c .before .before .inv-rotate-vector .ensures, c .before .before .before .plane-at .ensures)
+returns c = simp (
+  c .clip-to-face .ensures,
+  c .before .find-incident-face .ensures,
+  c .before .before .inv-rotate-vector .ensures,
+  c .before .before .before .plane-at .ensures,
+)
 
 pub candidates-spec : {M : Type 1} → statement M
 candidates-spec =

@@ -43,7 +43,15 @@ make-feature-pair-requires c κs = search needs
 
 returns : tie.Need-returns
 unfolding cornerOf taggedOf
-returns c = simp (c .make-feature-pair .ensures, c .before .plane-separation .ensures, c .before .before .add .ensures, c .before .before .before .mul-mv .ensures, c .before .before .before .before .vertex-at .ensures, c .before .before .before .before .before .origin-of .ensures, c .before .before .before .before .before .before .next-of .ensures)
+returns c = simp (
+  c .make-feature-pair .ensures,
+  c .before .plane-separation .ensures,
+  c .before .before .add .ensures,
+  c .before .before .before .mul-mv .ensures,
+  c .before .before .before .before .vertex-at .ensures,
+  c .before .before .before .before .before .origin-of .ensures,
+  c .before .before .before .before .before .before .next-of .ensures,
+)
 
 pub corner-spec : {M : Type 1} → statement M
 corner-spec =

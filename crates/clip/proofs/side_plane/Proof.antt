@@ -38,7 +38,17 @@ make-plane-from-normal-and-point-requires c κs = search needs
 
 returns : tie.Need-returns
 unfolding sidePlaneOf
-returns c = simp (c .make-plane-from-normal-and-point .ensures, c .before .cross .ensures, c .before .before .normalize .ensures, c .before .before .before .sub .ensures, c .before .before .before .before .vertex-at2 .ensures, c .before .before .before .before .before .origin-of2 .ensures, c .before .before .before .before .before .before .vertex-at .ensures, c .before .before .before .before .before .before .before .origin-of .ensures, c .before .before .before .before .before .before .before .before .next-of .ensures)
+returns c = simp (
+  c .make-plane-from-normal-and-point .ensures,
+  c .before .cross .ensures,
+  c .before .before .normalize .ensures,
+  c .before .before .before .sub .ensures,
+  c .before .before .before .before .vertex-at2 .ensures,
+  c .before .before .before .before .before .origin-of2 .ensures,
+  c .before .before .before .before .before .before .vertex-at .ensures,
+  c .before .before .before .before .before .before .before .origin-of .ensures,
+  c .before .before .before .before .before .before .before .before .next-of .ensures,
+)
 
 pub side-plane-spec : {M : Type 1} → statement M
 side-plane-spec =

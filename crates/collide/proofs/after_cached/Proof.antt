@@ -2,8 +2,8 @@
 use mathlib.Core.Path.{ap, _∙_}
 use borrow.Author.Needs.{needs}
 use Rattle.manifold.specs.declared.SatCache.{SatCache}
-use Rattle.builds.specs.declared.Built.{Built}
-use Rattle.answers.specs.Answers.{accepted, answerOf}
+use Rattle.collide_outcome.specs.declared.Built.{Built}
+use Rattle.collide_outcome.specs.Answers.{accepted, answerOf}
 use Rattle.collide.proofs.Steps.{cached-refused, cached-hit, cached-missed}
 use Rattle.collide.proofs.after_cached.Statement.{statement}
 use Rattle.collide.proofs.after_cached.Tie as tie
@@ -13,7 +13,8 @@ refused-requires c κs = search needs
 
 returns : tie.Need-returns
 returns c = let a = c .before .before .before .before .before .before .before .args in
-    c .refused .ensures ∙ cached-refused (a .size-a) (a .numbers-a .now) (a .links-a .now) (a .size-b) (a .numbers-b .now) (a .links-b .now) (a .transform) (a .cache) (a .cached) (c .before .if1 .taken)
+    c .refused .ensures ∙ cached-refused (a .size-a) (a .numbers-a .now) (a .links-a .now) (a .size-b) (a .numbers-b .now) (a .links-b .now)
+    (a .transform) (a .cache) (a .cached) (c .before .if1 .taken)
 
 hit-set-requires : tie.Need-hit-set-requires
 hit-set-requires c κs = search needs
@@ -24,7 +25,8 @@ accepted-with-requires c κs = search needs
 returns-2 : tie.Need-returns-2
 returns-2 c = let a = c .before .before .before .before .before .before .before .before .before .before .args in
     c .accepted-with .ensures ∙ ap (λ (next : SatCache). accepted (a .cached .contact) next) (c .before .hit-set .ensures)
-    ∙ cached-hit (a .size-a) (a .numbers-a .now) (a .links-a .now) (a .size-b) (a .numbers-b .now) (a .links-b .now) (a .transform) (a .cache) (a .cached) (c .before .before .before .before .if1 .left) (c .before .before .before .if2 .taken)
+    ∙ cached-hit (a .size-a) (a .numbers-a .now) (a .links-a .now) (a .size-b) (a .numbers-b .now) (a .links-b .now) (a .transform) (a .cache)
+    (a .cached) (c .before .before .before .before .if1 .left) (c .before .before .before .if2 .taken)
 
 full-search-requires : tie.Need-full-search-requires
 full-search-requires c κs = search needs
@@ -35,7 +37,8 @@ answer-of-requires c κs = search needs
 returns-3 : tie.Need-returns-3
 returns-3 c = let a = c .before .before .before .before .before .before .before .before .before .args in
     c .answer-of .ensures ∙ ap (λ (built : Built). answerOf (a .cache) built) (c .before .full-search .ensures)
-    ∙ cached-missed (a .size-a) (a .numbers-a .now) (a .links-a .now) (a .size-b) (a .numbers-b .now) (a .links-b .now) (a .transform) (a .cache) (a .cached) (c .before .before .before .if1 .left) (c .before .before .if2 .left)
+    ∙ cached-missed (a .size-a) (a .numbers-a .now) (a .links-a .now) (a .size-b) (a .numbers-b .now) (a .links-b .now) (a .transform)
+    (a .cache) (a .cached) (c .before .before .before .if1 .left) (c .before .before .if2 .left)
 
 pub after-cached-spec : {M : Type 1} → statement M
 after-cached-spec =

@@ -2,11 +2,11 @@
 use mathlib.Core.Path.{ap, _∙_}
 use mathlib.Core.Logic.{⊎-elim}
 use borrow.Author.Needs.{needs}
-use Rattle.builds.specs.declared.Built.{Built}
-use Rattle.answers.specs.declared.Cached.{Cached}
-use Rattle.answers.specs.Answers.{answerOf}
+use Rattle.collide_outcome.specs.declared.Built.{Built}
+use Rattle.collide_outcome.specs.declared.Cached.{Cached}
+use Rattle.collide_outcome.specs.Answers.{answerOf}
 use Rattle.collide.specs.Call.{afterCached}
-use Rattle.refusals.proofs.Cases.{face-a-there, face-b-there, edges-there}
+use Rattle.collide_refusals.proofs.Cases.{face-a-there, face-b-there, edges-there}
 use Rattle.collide.proofs.Steps.{at-2, at-3, at-4, at-5, at-6, at-7, at-8, at-rest}
 use Rattle.collide.proofs.worked.Statement.{statement}
 use Rattle.collide.proofs.worked.Tie as tie
@@ -27,7 +27,8 @@ after-cached-requires-2 c κs = search needs
 
 cached-edge-requires : tie.Need-cached-edge-requires
 cached-edge-requires c κs = let s = c .before .before .before .before .before in
-    let there = edges-there (s .args .size-a) (s .args .size-b) (s .args .cache) (s .pre .3) (c .match .keys4) (s .pre .0 .links-fit .h-even) (s .pre .1 .links-fit .h-even) in
+    let there = edges-there (s .args .size-a) (s .args .size-b) (s .args .cache) (s .pre .3) (c .match .keys4) (s .pre .0 .links-fit .h-even)
+    (s .pre .1 .links-fit .h-even) in
     (s .pre .0, s .pre .1, there .0, there .1)
 
 after-cached-requires-3 : tie.Need-after-cached-requires-3
@@ -59,33 +60,51 @@ answer-of-requires-4 c κs = search needs
 
 returns : tie.Need-returns
 returns c = let a = c .before .before .before .before .before .before .before .args in
-    c .after-cached .ensures ∙ ap (λ (cached : Cached). afterCached (a .size-a) (a .numbers-a .now) (a .links-a .now) (a .size-b) (a .numbers-b .now) (a .links-b .now) (a .transform) (a .cache) cached) (c .before .cached-face-a .ensures) ∙ at-2 (a .size-a) (a .numbers-a .now) (a .links-a .now) (a .size-b) (a .numbers-b .now) (a .links-b .now) (a .transform) (a .cache) (c .before .before .match .keys2)
+    c .after-cached .ensures ∙ ap (λ (cached : Cached). afterCached (a .size-a) (a .numbers-a .now) (a .links-a .now) (a .size-b)
+    (a .numbers-b .now) (a .links-b .now) (a .transform) (a .cache) cached) (c .before .cached-face-a .ensures)
+    ∙ at-2 (a .size-a) (a .numbers-a .now) (a .links-a .now) (a .size-b) (a .numbers-b .now) (a .links-b .now) (a .transform) (a .cache)
+    (c .before .before .match .keys2)
 
 returns-2 : tie.Need-returns-2
 returns-2 c = let a = c .before .before .before .before .before .before .before .args in
-    c .after-cached2 .ensures ∙ ap (λ (cached : Cached). afterCached (a .size-a) (a .numbers-a .now) (a .links-a .now) (a .size-b) (a .numbers-b .now) (a .links-b .now) (a .transform) (a .cache) cached) (c .before .cached-face-b .ensures) ∙ at-3 (a .size-a) (a .numbers-a .now) (a .links-a .now) (a .size-b) (a .numbers-b .now) (a .links-b .now) (a .transform) (a .cache) (c .before .before .match .keys3)
+    c .after-cached2 .ensures ∙ ap (λ (cached : Cached). afterCached (a .size-a) (a .numbers-a .now) (a .links-a .now) (a .size-b)
+    (a .numbers-b .now) (a .links-b .now) (a .transform) (a .cache) cached) (c .before .cached-face-b .ensures)
+    ∙ at-3 (a .size-a) (a .numbers-a .now) (a .links-a .now) (a .size-b) (a .numbers-b .now) (a .links-b .now) (a .transform) (a .cache)
+    (c .before .before .match .keys3)
 
 returns-3 : tie.Need-returns-3
 returns-3 c = let a = c .before .before .before .before .before .before .before .args in
-    c .after-cached3 .ensures ∙ ap (λ (cached : Cached). afterCached (a .size-a) (a .numbers-a .now) (a .links-a .now) (a .size-b) (a .numbers-b .now) (a .links-b .now) (a .transform) (a .cache) cached) (c .before .cached-edge .ensures) ∙ at-4 (a .size-a) (a .numbers-a .now) (a .links-a .now) (a .size-b) (a .numbers-b .now) (a .links-b .now) (a .transform) (a .cache) (c .before .before .match .keys4)
+    c .after-cached3 .ensures ∙ ap (λ (cached : Cached). afterCached (a .size-a) (a .numbers-a .now) (a .links-a .now) (a .size-b)
+    (a .numbers-b .now) (a .links-b .now) (a .transform) (a .cache) cached) (c .before .cached-edge .ensures)
+    ∙ at-4 (a .size-a) (a .numbers-a .now) (a .links-a .now) (a .size-b) (a .numbers-b .now) (a .links-b .now) (a .transform) (a .cache)
+    (c .before .before .match .keys4)
 
 returns-4 : tie.Need-returns-4
 returns-4 c = let a = c .before .before .before .before .before .before .before .args in
-    c .answer-of .ensures ∙ ap (λ (built : Built). answerOf (a .cache) built) (c .before .manual-face-a .ensures) ∙ at-6 (a .size-a) (a .numbers-a .now) (a .links-a .now) (a .size-b) (a .numbers-b .now) (a .links-b .now) (a .transform) (a .cache) (c .before .before .match .keys5)
+    c .answer-of .ensures ∙ ap (λ (built : Built). answerOf (a .cache) built) (c .before .manual-face-a .ensures)
+    ∙ at-6 (a .size-a) (a .numbers-a .now) (a .links-a .now) (a .size-b) (a .numbers-b .now) (a .links-b .now) (a .transform) (a .cache)
+    (c .before .before .match .keys5)
 
 returns-5 : tie.Need-returns-5
 returns-5 c = let a = c .before .before .before .before .before .before .before .args in
-    c .answer-of2 .ensures ∙ ap (λ (built : Built). answerOf (a .cache) built) (c .before .manual-face-b .ensures) ∙ at-7 (a .size-a) (a .numbers-a .now) (a .links-a .now) (a .size-b) (a .numbers-b .now) (a .links-b .now) (a .transform) (a .cache) (c .before .before .match .keys6)
+    c .answer-of2 .ensures ∙ ap (λ (built : Built). answerOf (a .cache) built) (c .before .manual-face-b .ensures)
+    ∙ at-7 (a .size-a) (a .numbers-a .now) (a .links-a .now) (a .size-b) (a .numbers-b .now) (a .links-b .now) (a .transform) (a .cache)
+    (c .before .before .match .keys6)
 
 returns-6 : tie.Need-returns-6
 returns-6 c = let a = c .before .before .before .before .before .before .before .args in
-    c .answer-of3 .ensures ∙ ap (λ (built : Built). answerOf (a .cache) built) (c .before .manual-edge .ensures) ∙ at-8 (a .size-a) (a .numbers-a .now) (a .links-a .now) (a .size-b) (a .numbers-b .now) (a .links-b .now) (a .transform) (a .cache) (c .before .before .match .keys7)
+    c .answer-of3 .ensures ∙ ap (λ (built : Built). answerOf (a .cache) built) (c .before .manual-edge .ensures)
+    ∙ at-8 (a .size-a) (a .numbers-a .now) (a .links-a .now) (a .size-b) (a .numbers-b .now) (a .links-b .now) (a .transform) (a .cache)
+    (c .before .before .match .keys7)
 
 returns-7 : tie.Need-returns-7
 returns-7 c = let a = c .before .before .before .before .before .before .before .args in
     c .answer-of4 .ensures ∙ ap (λ (built : Built). answerOf (a .cache) built) (c .before .full-search .ensures)
-    ∙ ⊎-elim (λ one. at-5 (a .size-a) (a .numbers-a .now) (a .links-a .now) (a .size-b) (a .numbers-b .now) (a .links-b .now) (a .transform) (a .cache) (one .keys1))
-    (λ none. at-rest (a .size-a) (a .numbers-a .now) (a .links-a .now) (a .size-b) (a .numbers-b .now) (a .links-b .now) (a .transform) (a .cache) (none .rest .0 .0 .0 .0 .0 .1) (none .rest .0 .0 .0 .0 .1) (none .rest .0 .0 .0 .1) (none .rest .0 .0 .1) (none .rest .0 .1) (none .rest .1))
+    ∙ ⊎-elim (λ one. at-5 (a .size-a) (a .numbers-a .now) (a .links-a .now) (a .size-b) (a .numbers-b .now) (a .links-b .now) (a .transform)
+    (a .cache) (one .keys1))
+    (λ none. at-rest (a .size-a) (a .numbers-a .now) (a .links-a .now) (a .size-b) (a .numbers-b .now) (a .links-b .now) (a .transform)
+    (a .cache) (none .rest .0 .0 .0 .0 .0 .1) (none .rest .0 .0 .0 .0 .1) (none .rest .0 .0 .0 .1) (none .rest .0 .0 .1) (none .rest .0 .1)
+    (none .rest .1))
     (c .before .before .match .came)
 
 pub worked-spec : {M : Type 1} → statement M

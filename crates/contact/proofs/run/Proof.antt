@@ -3,12 +3,13 @@ use mathlib.Core.Path.{_≡_, refl}
 use native.Mathlib.Omega.{arith}
 use borrow.Author.Needs.{needs}
 use lib.ListN.{length, length-take}
-use Rattle.holding.specs.Held.{Ready}
+use Rattle.stream_pending.specs.Held.{Ready}
 use Rattle.contact.proofs.run.Statement.{statement}
 use Rattle.contact.proofs.run.Tie as tie
 
 abbrev Inv-loop : tie.InvT-loop
-Inv-loop chunk₀ line₀ out₀ p₀ turns₀ chunk line out p turns = (length chunk ≡ length chunk₀) × (length line ≡ length line₀) × (length out ≡ length out₀) × Ready line p
+Inv-loop chunk₀ line₀ out₀ p₀ turns₀ chunk line out p turns = (length chunk ≡ length chunk₀) × (length line ≡ length line₀)
+    × (length out ≡ length out₀) × Ready line p
 
 abbrev μ-loop : tie.MeasureT-loop
 μ-loop chunk₀ line₀ out₀ p₀ turns₀ chunk line out p turns = turns

@@ -3,7 +3,7 @@ use Prim.Native.Nat.{_-_}
 use mathlib.Core.Path.{_≡_, refl}
 use native.Mathlib.Omega.{arith}
 use lib.ListN.{length, length-take, length-drop}
-use Rattle.holding.proofs.Holds.{differ}
+use Rattle.stream_pending.proofs.Holds.{differ}
 use Rattle.contact.proofs.Sends.{Going, going-none, going-more, going-end}
 use Rattle.contact.proofs.send_all.Statement.{statement}
 use Rattle.contact.proofs.send_all.Tie as tie
@@ -33,13 +33,22 @@ send-part-requires : tie.Need-send-part-requires Inv-loop μ-loop
 send-part-requires c κs = (simp (length-take, length-drop) (omega arith), c .before .before .before .before .loop .inv .2 .ready, omega arith)
 
 still-requires : tie.Need-still-requires Inv-loop μ-loop
-still-requires c κs = (c .before .before .before .before .before .send-part .ensures .0, omega (arith, simp (length-take, length-drop) at (c .before .before .before .before .before .send-part .ensures .1)))
+still-requires c κs = (
+  c .before .before .before .before .before .send-part .ensures .0,
+  omega (arith, simp (length-take, length-drop) at (c .before .before .before .before .before .send-part .ensures .1)),
+)
 
 loop-less : tie.Need-loop-less Inv-loop μ-loop
 loop-less c = c .still .ensures .0
 
 loop-again : tie.Need-loop-again Inv-loop μ-loop
-loop-again c = let sent = c .before .before .before .before .before .before .send-part .ensures in let s = c .still .ensures in (omega arith, omega arith, going-more (c .before .before .before .before .before .before .before .before .before .before .before .loop .inv .2) (c .before .before .before .before .before .before .before .before .before .before .loop-test .taken) (omega (arith, simp (length-take, length-drop) at (sent .1))) (sent .2) (sent .3) (s .1) (s .2) (s .0))
+loop-again c = let sent = c .before .before .before .before .before .before .send-part .ensures in let s = c .still .ensures in (
+  omega arith,
+  omega arith,
+  going-more (c .before .before .before .before .before .before .before .before .before .before .before .loop .inv .2)
+      (c .before .before .before .before .before .before .before .before .before .before .loop-test .taken)
+      (omega (arith, simp (length-take, length-drop) at (sent .1))) (sent .2) (sent .3) (s .1) (s .2) (s .0),
+)
 
 same-length : tie.Need-same-length Inv-loop μ-loop
 same-length c = omega arith
@@ -48,7 +57,11 @@ same-length-2 : tie.Need-same-length-2 Inv-loop μ-loop
 same-length-2 c = omega arith
 
 returns : tie.Need-returns Inv-loop μ-loop
-returns c = (c .before .before .loop .inv .2 .ready, λ e. going-end (c .before .before .loop .inv .2) (c .before .loop-test .left) (c .if1 .taken), λ e. differ refl e)
+returns c = (
+  c .before .before .loop .inv .2 .ready,
+  λ e. going-end (c .before .before .loop .inv .2) (c .before .loop-test .left) (c .if1 .taken),
+  λ e. differ refl e,
+)
 
 same-length-3 : tie.Need-same-length-3 Inv-loop μ-loop
 same-length-3 c = omega arith

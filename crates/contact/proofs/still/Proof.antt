@@ -1,7 +1,7 @@
 -- Both cases.
 use mathlib.Core.Path.{refl}
 use native.Mathlib.Omega.{arith}
-use Rattle.holding.proofs.Holds.{differ}
+use Rattle.stream_pending.proofs.Holds.{differ}
 use borrow.Author.Needs.{needs}
 use Rattle.contact.proofs.still.Statement.{statement}
 use Rattle.contact.proofs.still.Tie as tie

@@ -29,7 +29,8 @@ same-length-2 : tie.Need-same-length-2
 same-length-2 c = search needs
 
 returns-2 : tie.Need-returns-2
-returns-2 c = answers-same (c .before .before .flipped-answer .ensures) (ap flippedAnswer (c .before .before .before .before .flip-pair .ensures ∙ ap flipOf (c .before .before .before .before .before .pair-at .ensures)) ∙ flip-whole _ (c .before .before .before .before .before .before .if1 .left))
+returns-2 c = answers-same (c .before .before .flipped-answer .ensures) (ap flippedAnswer (c .before .before .before .before .flip-pair .ensures
+    ∙ ap flipOf (c .before .before .before .before .before .pair-at .ensures)) ∙ flip-whole _ (c .before .before .before .before .before .before .if1 .left))
 
 pub flip-answer-spec : {M : Type 1} → statement M
 flip-answer-spec =

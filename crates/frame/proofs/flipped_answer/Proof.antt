@@ -1,6 +1,6 @@
 -- Refusal 8, or the pair.
 use mathlib.Core.Path.{refl}
-use Rattle.encode.proofs.Written.{then}
+use Rattle.frame_encode.proofs.Written.{then}
 use Rattle.frame.proofs.Puts.{put, answers-same, flip-refused, flip-done}
 use borrow.Author.Needs.{needs}
 use Rattle.frame.proofs.flipped_answer.Statement.{statement}
@@ -25,7 +25,9 @@ same-length-2 : tie.Need-same-length-2
 same-length-2 c = search needs
 
 returns-2 : tie.Need-returns-2
-returns-2 c = answers-same (put (then (c .before .before .before .before .before .before .before .put-byte .ensures) (c .before .before .put-pair .ensures) refl) (search needs) refl) (flip-done _ (c .before .before .before .before .before .before .before .before .before .if1 .left))
+returns-2 c = answers-same (put (then (c .before .before .before .before .before .before .before .put-byte .ensures)
+    (c .before .before .put-pair .ensures) refl) (search needs) refl)
+    (flip-done _ (c .before .before .before .before .before .before .before .before .before .if1 .left))
 
 pub flipped-answer-spec : {M : Type 1} → statement M
 flipped-answer-spec =

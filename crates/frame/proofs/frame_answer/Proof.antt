@@ -32,25 +32,31 @@ same-length-2 : tie.Need-same-length-2
 same-length-2 c = search needs
 
 returns-2 : tie.Need-returns-2
-returns-2 c = answers-same (c .before .before .root-answer .ensures) (frame-root _ (c .before .before .before .before .before .before .if1 .left) (c .before .before .before .before .match .keys1))
+returns-2 c = answers-same (c .before .before .root-answer .ensures) (frame-root _ (c .before .before .before .before .before .before .if1 .left)
+    (c .before .before .before .before .match .keys1))
 
 same-length-3 : tie.Need-same-length-3
 same-length-3 c = search needs
 
 returns-3 : tie.Need-returns-3
-returns-3 c = answers-same (c .before .before .flip-answer .ensures) (frame-flip _ (c .before .before .before .before .before .before .if1 .left) (c .before .before .before .before .match .keys2))
+returns-3 c = answers-same (c .before .before .flip-answer .ensures) (frame-flip _ (c .before .before .before .before .before .before .if1 .left)
+    (c .before .before .before .before .match .keys2))
 
 same-length-4 : tie.Need-same-length-4
 same-length-4 c = search needs
 
 returns-4 : tie.Need-returns-4
-returns-4 c = answers-same (c .before .before .call-answer .ensures) (frame-call _ (c .before .before .before .before .before .before .if1 .left) (c .before .before .before .before .match .keys3))
+returns-4 c = answers-same (c .before .before .call-answer .ensures) (frame-call _ (c .before .before .before .before .before .before .if1 .left)
+    (c .before .before .before .before .match .keys3))
 
 same-length-5 : tie.Need-same-length-5
 same-length-5 c = search needs
 
 returns-5 : tie.Need-returns-5
-returns-5 c = answers-same (c .before .before .put-fault2 .ensures) (frame-other (c .before .before .before .before .before .before .before .before .before .args .frame .now) (c .before .before .before .before .before .before .if1 .left) (c .before .before .before .before .match .rest .0 .0 .1) (c .before .before .before .before .match .rest .0 .1) (c .before .before .before .before .match .rest .1))
+returns-5 c = answers-same (c .before .before .put-fault2 .ensures)
+    (frame-other (c .before .before .before .before .before .before .before .before .before .args .frame .now)
+    (c .before .before .before .before .before .before .if1 .left) (c .before .before .before .before .match .rest .0 .0 .1)
+    (c .before .before .before .before .match .rest .0 .1) (c .before .before .before .before .match .rest .1))
 
 pub frame-answer-spec : {M : Type 1} → statement M
 frame-answer-spec =

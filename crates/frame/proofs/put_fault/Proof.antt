@@ -1,6 +1,6 @@
 -- Two bytes.
 use mathlib.Core.Path.{refl}
-use Rattle.encode.proofs.Written.{then}
+use Rattle.frame_encode.proofs.Written.{then}
 use Rattle.frame.proofs.Puts.{put}
 use borrow.Author.Needs.{needs}
 use Rattle.frame.proofs.put_fault.Statement.{statement}

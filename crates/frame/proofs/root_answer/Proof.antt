@@ -2,8 +2,8 @@
 use mathlib.Core.Path.{refl, ap, _∙_}
 use mathlib.Core.List.{_∷_}
 use Rattle.root.specs.Root.{rootOf}
-use Rattle.encode.specs.Bytes.{floatBytes}
-use Rattle.encode.proofs.Written.{then}
+use Rattle.frame_encode.specs.Bytes.{floatBytes}
+use Rattle.frame_encode.proofs.Written.{then}
 use Rattle.frame.proofs.Puts.{put, answers-same, root-short, root-whole}
 use borrow.Author.Needs.{needs}
 use Rattle.frame.proofs.root_answer.Statement.{statement}
@@ -34,8 +34,11 @@ same-length-2 : tie.Need-same-length-2
 same-length-2 c = search needs
 
 returns-2 : tie.Need-returns-2
-returns-2 c = answers-same (put (then (c .before .before .before .before .before .before .before .before .put-byte .ensures) (c .before .before .put-float .ensures) refl) (search needs) refl)
-    (ap (λ x. 0x90 ∷ floatBytes x) (c .before .before .before .before .root .ensures .1 ∙ ap rootOf (c .before .before .before .before .before .float-at .ensures)) ∙ root-whole _ (c .before .before .before .before .before .before .before .before .before .before .if1 .left))
+returns-2 c = answers-same (put (then (c .before .before .before .before .before .before .before .before .put-byte .ensures)
+    (c .before .before .put-float .ensures) refl) (search needs) refl)
+    (ap (λ x. 0x90 ∷ floatBytes x) (c .before .before .before .before .root .ensures .1
+    ∙ ap rootOf (c .before .before .before .before .before .float-at .ensures))
+    ∙ root-whole _ (c .before .before .before .before .before .before .before .before .before .before .if1 .left))
 
 pub root-answer-spec : {M : Type 1} → statement M
 root-answer-spec =

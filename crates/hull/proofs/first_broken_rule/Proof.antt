@@ -2,7 +2,7 @@
 use mathlib.Core.Path.{sym, _∙_}
 use borrow.Author.Needs.{needs}
 use borrow.Author.Tests.{not-true, not-false}
-use Rattle.links.proofs.Facts.{links-fit, numbers-fit}
+use Rattle.hull_links.proofs.Facts.{links-fit, numbers-fit}
 use Rattle.hull.proofs.Answer.{sizes-broken, in-range, links-broken, numbers-broken, nothing-broken}
 use Rattle.hull.proofs.first_broken_rule.Statement.{statement}
 use Rattle.hull.proofs.first_broken_rule.Tie as tie
@@ -32,13 +32,15 @@ returns-3 : tie.Need-returns-3
 returns-3 c = let e = c .before .before in
     let k = e .before in
     let z = k .before in
-    numbers-broken _ _ _ (sym (z .before .sizes-right .ensures) ∙ not-false _ (z .if1 .left)) (sym (k .broken-link-rule .ensures) ∙ e .if2 .left) (sym (c .before .numbers-right .ensures) ∙ not-true _ (c .if3 .taken))
+    numbers-broken _ _ _ (sym (z .before .sizes-right .ensures) ∙ not-false _ (z .if1 .left)) (sym (k .broken-link-rule .ensures) ∙ e .if2 .left)
+    (sym (c .before .numbers-right .ensures) ∙ not-true _ (c .if3 .taken))
 
 returns-4 : tie.Need-returns-4
 returns-4 c = let e = c .before .before in
     let k = e .before in
     let z = k .before in
-    nothing-broken _ _ _ (sym (z .before .sizes-right .ensures) ∙ not-false _ (z .if1 .left)) (sym (k .broken-link-rule .ensures) ∙ e .if2 .left) (sym (c .before .numbers-right .ensures) ∙ not-false _ (c .if3 .left))
+    nothing-broken _ _ _ (sym (z .before .sizes-right .ensures) ∙ not-false _ (z .if1 .left)) (sym (k .broken-link-rule .ensures) ∙ e .if2 .left)
+    (sym (c .before .numbers-right .ensures) ∙ not-false _ (c .if3 .left))
 
 pub first-broken-rule-spec : {M : Type 1} → statement M
 first-broken-rule-spec =

@@ -1,15 +1,11 @@
 -- `support_vertex`: the slices lent are the hull's three lists.
-use mathlib.Core.Path.{refl, _∙_}
 use borrow.Author.Needs.{needs}
 use Rattle.hull.proofs.Support.{lists-are}
 use Rattle.hull.proofs.support_vertex.Statement.{statement}
 use Rattle.hull.proofs.support_vertex.Tie as tie
 
-add-p : tie.Need-add-p
-add-p c = search needs
-
-mul-p : tie.Need-mul-p
-mul-p c = search needs
+padded-requires : tie.Need-padded-requires
+padded-requires c κs = search needs
 
 add-y : tie.Need-add-y
 add-y c = search needs
@@ -57,14 +53,15 @@ find-hull-support-vertex-requires : tie.Need-find-hull-support-vertex-requires
 find-hull-support-vertex-requires c κs = search needs
 
 returns : tie.Need-returns
-returns c = let a = c .before .before .before .before .before .before .args in c .find-hull-support-vertex .ensures ∙ lists-are (a .size) (a .numbers .now) (a .d) _ _ _ refl refl refl
+returns c =
+    let a = c .before .before .before .before .before .before .args in
+    lists-are (a .size) (a .numbers .now) (a .d) _ (c .before .before .before .before .padded .ensures) (c .find-hull-support-vertex .ensures)
 
 pub support-vertex-spec : {M : Type 1} → statement M
 support-vertex-spec =
     tie.close
     (tie.spec
-    add-p
-    mul-p
+    padded-requires
     add-y
     add-z
     sub-find-hull-support-vertex

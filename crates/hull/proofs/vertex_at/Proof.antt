@@ -1,15 +1,11 @@
 -- `vertex_at`: the numbers read are those of the definition.
-use mathlib.Core.Path.{refl}
 use borrow.Author.Needs.{needs}
 use Rattle.hull.specs.Numbers.{vertexAt}
 use Rattle.hull.proofs.vertex_at.Statement.{statement}
 use Rattle.hull.proofs.vertex_at.Tie as tie
 
-add-p : tie.Need-add-p
-add-p c = search needs
-
-mul-p : tie.Need-mul-p
-mul-p c = search needs
+padded-requires : tie.Need-padded-requires
+padded-requires c κs = search needs
 
 add-t5 : tie.Need-add-t5
 add-t5 c = search needs
@@ -49,14 +45,13 @@ shared-slice-read-t19 c = search needs
 
 returns : tie.Need-returns
 unfolding vertexAt
-returns c = refl
+returns c = rw (c .before .before .before .padded .ensures)
 
 pub vertex-at-spec : {M : Type 1} → statement M
 vertex-at-spec =
     tie.close
     (tie.spec
-    add-p
-    mul-p
+    padded-requires
     add-t5
     mul-t6
     shared-slice-read-t8

@@ -27,7 +27,12 @@ embed-index-requires-4 c κs = search needs
 
 returns : tie.Need-returns
 unfolding embedWOf
-returns c = simp (c .embed-index4 .ensures, c .before .embed-index3 .ensures, c .before .before .embed-index2 .ensures, c .before .before .before .embed-index .ensures)
+returns c = simp (
+  c .embed-index4 .ensures,
+  c .before .embed-index3 .ensures,
+  c .before .before .embed-index2 .ensures,
+  c .before .before .before .embed-index .ensures,
+)
 
 pub embed-index-w-spec : {M : Type 1} → statement M
 embed-index-w-spec =

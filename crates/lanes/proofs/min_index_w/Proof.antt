@@ -21,8 +21,10 @@ lesser-requires-3 c κs = search needs
 float-to-bits-bits : tie.Need-float-to-bits-bits
 float-to-bits-bits c =
     let s = c .before .before .before in
-    let xy : T (finite (c .before .before .lesser .result)) = lesser-finite (s .args .a .x) (s .args .a .y) (c .before .before .lesser .ensures) (s .pre .on-x) (s .pre .on-y) in
-    let xyz : T (finite (c .before .lesser2 .result)) = lesser-finite (c .before .before .lesser .result) (s .args .a .z) (c .before .lesser2 .ensures) xy (s .pre .on-z) in
+    let xy : T (finite (c .before .before .lesser .result)) = lesser-finite (s .args .a .x) (s .args .a .y) (c .before .before .lesser .ensures)
+    (s .pre .on-x) (s .pre .on-y) in
+    let xyz : T (finite (c .before .lesser2 .result)) =
+    lesser-finite (c .before .before .lesser .result) (s .args .a .z) (c .before .lesser2 .ensures) xy (s .pre .on-z) in
     no-nan (c .lesser3 .result) (lesser-finite (c .before .lesser2 .result) (s .args .a .w) (c .lesser3 .ensures) xyz (s .pre .on-w))
 
 returns : tie.Need-returns

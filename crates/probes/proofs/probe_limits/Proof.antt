@@ -16,7 +16,12 @@ get-length-units-per-meter-requires : tie.Need-get-length-units-per-meter-requir
 get-length-units-per-meter-requires c κs = search needs
 
 returns : tie.Need-returns
-returns c = simp (c .get-length-units-per-meter .ensures, c .before .huge .ensures, c .before .before .speculative-distance .ensures, c .before .before .before .linear-slop .ensures)
+returns c = simp (
+  c .get-length-units-per-meter .ensures,
+  c .before .huge .ensures,
+  c .before .before .speculative-distance .ensures,
+  c .before .before .before .linear-slop .ensures,
+)
 
 pub probe-limits-spec : {M : Type 1} → statement M
 probe-limits-spec =

@@ -13,7 +13,11 @@ is-within-segments-requires : tie.Need-is-within-segments-requires
 is-within-segments-requires c κs = search needs
 
 returns : tie.Need-returns
-returns c = simp (c .before .before .is-within-segments .ensures, c .before .before .before .line-distance .ensures, c .before .before .before .before .arbitrary-perp .ensures)
+returns c = simp (
+  c .before .before .is-within-segments .ensures,
+  c .before .before .before .line-distance .ensures,
+  c .before .before .before .before .arbitrary-perp .ensures,
+)
 
 pub probe-lines-spec : {M : Type 1} → statement M
 probe-lines-spec =

@@ -31,7 +31,17 @@ invert-transform-requires : tie.Need-invert-transform-requires
 invert-transform-requires c κs = search needs
 
 returns : tie.Need-returns
-returns c = simp (c .invert-transform .ensures, c .before .inv-transform-point .ensures, c .before .before .transform-point .ensures, c .before .before .before .inv-rotate-vector .ensures, c .before .before .before .before .rotate-vector .ensures, c .before .before .before .before .before .mul-mv2 .ensures, c .before .before .before .before .before .before .mul-mv .ensures, c .before .before .before .before .before .before .before .transpose .ensures, c .before .before .before .before .before .before .before .before .make-matrix-from-quat .ensures)
+returns c = simp (
+  c .invert-transform .ensures,
+  c .before .inv-transform-point .ensures,
+  c .before .before .transform-point .ensures,
+  c .before .before .before .inv-rotate-vector .ensures,
+  c .before .before .before .before .rotate-vector .ensures,
+  c .before .before .before .before .before .mul-mv2 .ensures,
+  c .before .before .before .before .before .before .mul-mv .ensures,
+  c .before .before .before .before .before .before .before .transpose .ensures,
+  c .before .before .before .before .before .before .before .before .make-matrix-from-quat .ensures,
+)
 
 pub probe-rotations-spec : {M : Type 1} → statement M
 probe-rotations-spec =

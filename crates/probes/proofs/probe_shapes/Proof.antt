@@ -19,7 +19,13 @@ get-point-support-requires : tie.Need-get-point-support-requires
 get-point-support-requires c κs = search needs
 
 returns : tie.Need-returns
-returns c = simp (c .get-point-support .ensures, c .before .aabb-extents .ensures, c .before .before .aabb-center .ensures, c .before .before .before .make-plane-from-normal-and-point .ensures, c .before .before .before .before .plane-separation .ensures)
+returns c = simp (
+  c .get-point-support .ensures,
+  c .before .aabb-extents .ensures,
+  c .before .before .aabb-center .ensures,
+  c .before .before .before .make-plane-from-normal-and-point .ensures,
+  c .before .before .before .before .plane-separation .ensures,
+)
 
 pub probe-shapes-spec : {M : Type 1} → statement M
 probe-shapes-spec =

@@ -46,7 +46,22 @@ max-float-requires : tie.Need-max-float-requires
 max-float-requires c κs = search needs
 
 returns : tie.Need-returns
-returns c = simp (c .max-float .ensures, c .before .min-float .ensures, c .before .before .length-squared .ensures, c .before .before .before .dot .ensures, c .before .before .before .before .normalize .ensures, c .before .before .before .before .before .lerp .ensures, c .before .before .before .before .before .before .mul-sub .ensures, c .before .before .before .before .before .before .before .mul-add .ensures, c .before .before .before .before .before .before .before .before .mul-sv .ensures, c .before .before .before .before .before .before .before .before .before .cross .ensures, c .before .before .before .before .before .before .before .before .before .before .abs .ensures, c .before .before .before .before .before .before .before .before .before .before .before .neg .ensures, c .before .before .before .before .before .before .before .before .before .before .before .before .sub .ensures, c .before .before .before .before .before .before .before .before .before .before .before .before .before .add .ensures)
+returns c = simp (
+  c .max-float .ensures,
+  c .before .min-float .ensures,
+  c .before .before .length-squared .ensures,
+  c .before .before .before .dot .ensures,
+  c .before .before .before .before .normalize .ensures,
+  c .before .before .before .before .before .lerp .ensures,
+  c .before .before .before .before .before .before .mul-sub .ensures,
+  c .before .before .before .before .before .before .before .mul-add .ensures,
+  c .before .before .before .before .before .before .before .before .mul-sv .ensures,
+  c .before .before .before .before .before .before .before .before .before .cross .ensures,
+  c .before .before .before .before .before .before .before .before .before .before .abs .ensures,
+  c .before .before .before .before .before .before .before .before .before .before .before .neg .ensures,
+  c .before .before .before .before .before .before .before .before .before .before .before .before .sub .ensures,
+  c .before .before .before .before .before .before .before .before .before .before .before .before .before .add .ensures,
+)
 
 pub probe-vectors-spec : {M : Type 1} → statement M
 probe-vectors-spec =

@@ -1,4 +1,5 @@
--- `picked`: each loop's best is the best of the first i that are left, by the definition; what a search finds is read at its place, and is what the definition picks.
+-- `picked`: each loop's best is the best of the first i that are left, by the definition; what a search finds is read at its place, and is what the
+-- definition picks.
 use Prim.Native.Nat.{ℕ, _-_, _≤_, _<_}
 use mathlib.Core.Path.{_≡_, refl, sym, ap, _∙_}
 use mathlib.Core.Bool.{false}
@@ -13,14 +14,16 @@ use Rattle.vector.specs.Scalar.{absOf}
 use Rattle.manifold.specs.declared.ClipVertex.{ClipVertex}
 use Rattle.manifold.specs.Records.{pastVertex}
 use Rattle.manifold.specs.Polygons.{cornersOf}
-use Rattle.scores.specs.declared.Triangle.{Triangle}
-use Rattle.scores.specs.Images.{largest}
-use Rattle.scores.specs.Scores.{betterOf, asGoodOf, firstTurn, signedAreaOf, triangleOf}
-use Rattle.scores.proofs.Over.{over, start-over}
-use Rattle.points.specs.Points.{normalOf, contactOf}
-use Rattle.reduce.specs.Reduce.{tolerance, standing, taken, firstBest, secondBest, thirdBest, fourthBest, firstPicks, secondPicks, thirdPicks, fourthPicks}
+use Rattle.reduce_scores.specs.declared.Triangle.{Triangle}
+use Rattle.reduce_scores.specs.Images.{largest}
+use Rattle.reduce_scores.specs.Scores.{betterPickOf, asGoodOf, firstTurn, signedAreaOf, triangleOf}
+use Rattle.reduce_scores.proofs.Over.{over, start-over}
+use Rattle.reduce_points.specs.Points.{normalOf, contactOf}
+use Rattle.reduce.specs.Reduce.{tolerance, standing, taken, firstBest, secondBest, thirdBest, fourthBest, firstPicks, secondPicks, thirdPicks}
+use Rattle.reduce.specs.Reduce.{fourthPicks}
 use Rattle.reduce.proofs.Standing.{left, stands, stands-third, place-low, read-left, length-left-of}
-use Rattle.reduce.proofs.Answers.{nothing, secondTurn, thirdTurn, fourthTurn, search-turn, search-end, first-low, second-low, third-low, fourth-low, folded}
+use Rattle.reduce.proofs.Answers.{nothing, secondTurn, thirdTurn, fourthTurn, search-turn, search-end, first-low, second-low, third-low}
+use Rattle.reduce.proofs.Answers.{fourth-low, third-end, fourth-end, folded}
 use Rattle.reduce.proofs.Picks.{no-first, a-first, no-second, a-second, no-third, a-third, no-fourth, a-fourth}
 use Rattle.reduce.proofs.picked.Statement.{statement}
 use Rattle.reduce.proofs.picked.Tie as tie
@@ -32,19 +35,22 @@ abbrev μ-loop : tie.MeasureT-loop
 μ-loop normal direction points n first₀ i₀ first i = n - i
 
 abbrev Inv-loop2 : tie.InvT-loop2
-Inv-loop2 normal points n i j1 v1 a left2 second₀ i2₀ second i2 = (i2 ≤ left2) × (second ≡ over (secondTurn normal a) (nothing (float 0)) (left pastVertex (cornersOf points) (j1 ∷ [])) i2)
+Inv-loop2 normal points n i j1 v1 a left2 second₀ i2₀ second i2 =
+    (i2 ≤ left2) × (second ≡ over (secondTurn normal a) (nothing (float 0)) (left pastVertex (cornersOf points) (j1 ∷ [])) i2)
 
 abbrev μ-loop2 : tie.MeasureT-loop2
 μ-loop2 normal points n i j1 v1 a left2 second₀ i2₀ second i2 = left2 - i2
 
 abbrev Inv-loop3 : tie.InvT-loop3
-Inv-loop3 normal points n i j1 v1 a left2 i2 j2 place2 v2 b ba left3 third₀ i3₀ third i3 = (i3 ≤ left3) × (third ≡ over (thirdTurn normal a ba) (nothing tolerance) (left pastVertex (cornersOf points) (j1 ∷ j2 ∷ [])) i3)
+Inv-loop3 normal points n i j1 v1 a left2 i2 j2 place2 v2 b ba left3 third₀ i3₀ third i3 =
+    (i3 ≤ left3) × (third ≡ over (thirdTurn normal a ba) (nothing tolerance) (left pastVertex (cornersOf points) (j1 ∷ j2 ∷ [])) i3)
 
 abbrev μ-loop3 : tie.MeasureT-loop3
 μ-loop3 normal points n i j1 v1 a left2 i2 j2 place2 v2 b ba left3 third₀ i3₀ third i3 = left3 - i3
 
 abbrev Inv-loop4 : tie.InvT-loop4
-Inv-loop4 normal points n i j1 v1 left2 i2 j2 place2 v2 left3 i3 j3 place3 v3 t left4 fourth₀ i4₀ fourth i4 = (i4 ≤ left4) × (fourth ≡ over (fourthTurn normal t) (nothing tolerance) (left pastVertex (cornersOf points) (j1 ∷ j2 ∷ j3 ∷ [])) i4)
+Inv-loop4 normal points n i j1 v1 left2 i2 j2 place2 v2 left3 i3 j3 place3 v3 t left4 fourth₀ i4₀ fourth i4 =
+    (i4 ≤ left4) × (fourth ≡ over (fourthTurn normal t) (nothing tolerance) (left pastVertex (cornersOf points) (j1 ∷ j2 ∷ j3 ∷ [])) i4)
 
 abbrev μ-loop4 : tie.MeasureT-loop4
 μ-loop4 normal points n i j1 v1 left2 i2 j2 place2 v2 left3 i3 j3 place3 v3 t left4 fourth₀ i4₀ fourth i4 = left4 - i4
@@ -131,151 +137,189 @@ index-low c js i h = omega (arith, length-left-of pastVertex (c .args .t1 .verti
 low : (c : Start) (js : List ℕ) (i place : ℕ) → i < c .args .t1 .count - length js → place ≡ stands (c .args .t1 .count) js i → place < 64
 low c js i place h e = omega (arith, c .pre .0, place-low pastVertex (c .args .t1 .vertices) (c .args .t1 .count) (long c) js i place h e)
 
-reads : (c : Start) (js : List ℕ) (i place : ℕ) → i < c .args .t1 .count - length js → place ≡ stands (c .args .t1 .count) js i → at c place ≡ getD (rest c js) i pastVertex
+reads : (c : Start) (js : List ℕ) (i place : ℕ) → i < c .args .t1 .count - length js → place ≡ stands (c .args .t1 .count) js i
+    → at c place ≡ getD (rest c js) i pastVertex
 reads c = read-left pastVertex (c .args .t1 .vertices) (c .args .t1 .count) (long c)
 
 -- ---- the first search and its pick
-first-is : (c : tie.After-loop Inv-loop μ-loop Inv-loop2 μ-loop2 Inv-loop3 μ-loop3 Inv-loop4 μ-loop4) → c .before .loop .first ≡ firstBest (c .before .before .args .direction) (cornersOf (c .before .before .args .t1))
+first-is : (c : tie.After-loop Inv-loop μ-loop Inv-loop2 μ-loop2 Inv-loop3 μ-loop3 Inv-loop4 μ-loop4)
+    → c .before .loop .first ≡ firstBest (c .before .before .args .direction) (cornersOf (c .before .before .args .t1))
 unfolding firstBest
 first-is c =
     let start = c .before .before in
     let a = start .args in
     let l = c .before .loop in
-    search-end (firstTurn (a .direction)) (nothing (neg largest)) (a .t1 .vertices) (a .t1 .count) (long start) [] (l .first) (l .i) (omega (arith, l .inv .0)) (omega (arith, c .loop-test .left)) (l .inv .1)
+    search-end (firstTurn (a .direction)) (nothing (neg largest)) (a .t1 .vertices) (a .t1 .count) (long start) [] (l .first) (l .i)
+    (omega (arith, l .inv .0)) (omega (arith, c .loop-test .left)) (l .inv .1)
 
 first-index : (c : One) → j1 c < start1 c .args .t1 .count - 0
 first-index c =
     let a = start1 c .args in
-    index-low (start1 c) [] (j1 c) (first-low (a .direction) (cornersOf (a .t1)) (c .before .before .before .loop .first) (first-is (c .before .before)) (not-false _ (c .if1 .left)))
+    index-low (start1 c) [] (j1 c) (first-low (a .direction) (cornersOf (a .t1)) (c .before .before .before .loop .first)
+    (first-is (c .before .before)) (not-false _ (c .if1 .left)))
 
-one-taken : (c : One) → v1 c ∷ taken pastVertex (secondPicks (start1 c .args .normal) (v1 c) (rest (start1 c) (js1 c))) (rest (start1 c) (js1 c)) ≡ all (start1 c)
+one-taken : (c : One) → v1 c ∷ taken pastVertex (secondPicks (start1 c .args .normal) (v1 c) (rest (start1 c) (js1 c)))
+    (rest (start1 c) (js1 c)) ≡ all (start1 c)
 one-taken c =
     let start = start1 c in
     let a = start .args in
     let best = c .before .before .before .loop .first in
-    a-first (a .normal) (a .direction) (cornersOf (a .t1)) best (first-is (c .before .before)) (v1 c) (reads start [] (best .index) (best .index) (first-index c) refl) (not-false _ (c .if1 .left))
+    a-first (a .normal) (a .direction) (cornersOf (a .t1)) best (first-is (c .before .before)) (v1 c)
+    (reads start [] (best .index) (best .index) (first-index c) refl) (not-false _ (c .if1 .left))
 
 one-low : (c : One) → j1 c < 64
 one-low c = omega (arith, first-index c, start1 c .pre .0)
 
 -- ---- the second
 turn2-low : (c : tie.After-standing1 Inv-loop μ-loop Inv-loop2 μ-loop2 Inv-loop3 μ-loop3 Inv-loop4 μ-loop4) → c .standing1 .result < 64
-turn2-low c = let first = c .before .before .before .before .before in low (start1 first) (js1 first) (c .before .before .loop2 .i2) (c .standing1 .result) (c .before .loop2-test .taken) (c .standing1 .ensures)
+turn2-low c = let first = c .before .before .before .before .before in
+    low (start1 first) (js1 first) (c .before .before .loop2 .i2) (c .standing1 .result) (c .before .loop2-test .taken) (c .standing1 .ensures)
 
-second-is : (c : tie.After-loop2 Inv-loop μ-loop Inv-loop2 μ-loop2 Inv-loop3 μ-loop3 Inv-loop4 μ-loop4) → c .before .loop2 .second ≡ secondBest (start1 (c .before .before .before .before) .args .normal) (v1 (c .before .before .before .before) .position) (rest (start1 (c .before .before .before .before)) (js1 (c .before .before .before .before)))
+second-is : (c : tie.After-loop2 Inv-loop μ-loop Inv-loop2 μ-loop2 Inv-loop3 μ-loop3 Inv-loop4 μ-loop4)
+    → c .before .loop2 .second ≡ secondBest (start1 (c .before .before .before .before) .args .normal)
+    (v1 (c .before .before .before .before) .position) (rest (start1 (c .before .before .before .before)) (js1 (c .before .before .before .before)))
 unfolding secondBest
 second-is c =
     let first = c .before .before .before .before in
     let start = start1 first in
     let a = start .args in
     let l = c .before .loop2 in
-    search-end (secondTurn (a .normal) (v1 first .position)) (nothing (float 0)) (a .t1 .vertices) (a .t1 .count) (long start) (js1 first) (l .second) (l .i2) (l .inv .0) (c .loop2-test .left) (l .inv .1)
+    search-end (secondTurn (a .normal) (v1 first .position)) (nothing (float 0)) (a .t1 .vertices) (a .t1 .count) (long start) (js1 first)
+    (l .second) (l .i2) (l .inv .0) (c .loop2-test .left) (l .inv .1)
 
-enough : (c : tie.Else2 Inv-loop μ-loop Inv-loop2 μ-loop2 Inv-loop3 μ-loop3 Inv-loop4 μ-loop4) → lt (c .before .before .before .loop2 .second .score) tolerance ≡ false
+enough : (c : tie.Else2 Inv-loop μ-loop Inv-loop2 μ-loop2 Inv-loop3 μ-loop3 Inv-loop4 μ-loop4)
+    → lt (c .before .before .before .loop2 .second .score) tolerance ≡ false
 enough c =
     let score = c .before .before .before .loop2 .second .score in
     let above : lt score (float 0x39d1_b717) ≡ false = c .if2 .left in
     ap (lt score) (sym folded) ∙ above
 
-second-index : (c : tie.Else2 Inv-loop μ-loop Inv-loop2 μ-loop2 Inv-loop3 μ-loop3 Inv-loop4 μ-loop4) → c .before .before .before .loop2 .second .index < start1 (c .before .before .before .before .before .before) .args .t1 .count - 1
+second-index : (c : tie.Else2 Inv-loop μ-loop Inv-loop2 μ-loop2 Inv-loop3 μ-loop3 Inv-loop4 μ-loop4)
+    → c .before .before .before .loop2 .second .index < start1 (c .before .before .before .before .before .before) .args .t1 .count - 1
 second-index c =
     let first = c .before .before .before .before .before .before in
     let start = start1 first in
     let best = c .before .before .before .loop2 .second in
-    index-low start (js1 first) (best .index) (second-low (start .args .normal) (v1 first .position) (rest start (js1 first)) best (second-is (c .before .before)) (enough c))
+    index-low start (js1 first) (best .index) (second-low (start .args .normal) (v1 first .position) (rest start (js1 first)) best
+    (second-is (c .before .before)) (enough c))
 
 two-low : (c : Two) → c .standing12 .result < 64
 two-low c = low (start2 c) (js1 (one c)) (j2 c) (c .standing12 .result) (second-index (c .before)) (c .standing12 .ensures)
 
-two-taken : (c : Two) → v1 (one c) ∷ v2 c ∷ taken pastVertex (thirdPicks (start2 c .args .normal) (v1 (one c)) (v2 c) (rest (start2 c) (js2 c))) (rest (start2 c) (js2 c)) ≡ all (start2 c)
+two-taken : (c : Two) → v1 (one c) ∷ v2 c ∷ taken pastVertex (thirdPicks (start2 c .args .normal) (v1 (one c)) (v2 c) (rest (start2 c) (js2 c)))
+    (rest (start2 c) (js2 c)) ≡ all (start2 c)
 two-taken c =
     let start = start2 c in
     let js = js1 (one c) in
     let best = c .before .before .before .before .loop2 .second in
     ap (λ (vs : List ClipVertex). v1 (one c) ∷ vs)
-    (a-second (start .args .normal) (v1 (one c)) (rest start js) best (second-is (c .before .before .before)) (v2 c) (reads start js (best .index) (c .standing12 .result) (second-index (c .before)) (c .standing12 .ensures)) (enough (c .before)))
+    (a-second (start .args .normal) (v1 (one c)) (rest start js) best (second-is (c .before .before .before)) (v2 c)
+    (reads start js (best .index) (c .standing12 .result) (second-index (c .before)) (c .standing12 .ensures)) (enough (c .before)))
     ∙ one-taken (one c)
 
 -- ---- the third
 turn3-low : (c : tie.After-standing2 Inv-loop μ-loop Inv-loop2 μ-loop2 Inv-loop3 μ-loop3 Inv-loop4 μ-loop4) → c .standing2 .result < 64
-turn3-low c = let second = c .before .before .before .before .before .before in low (start2 second) (js2 second) (c .before .before .loop3 .i3) (c .standing2 .result) (c .before .loop3-test .taken) (c .standing2 .ensures)
+turn3-low c = let second = c .before .before .before .before .before .before in
+    low (start2 second) (js2 second) (c .before .before .loop3 .i3) (c .standing2 .result) (c .before .loop3-test .taken) (c .standing2 .ensures)
 
-third-is : (c : tie.After-loop3 Inv-loop μ-loop Inv-loop2 μ-loop2 Inv-loop3 μ-loop3 Inv-loop4 μ-loop4) → c .before .loop3 .third ≡ thirdBest (start2 (c .before .before .before .before .before) .args .normal) tolerance (v1 (one (c .before .before .before .before .before)) .position) (v2 (c .before .before .before .before .before) .position) (rest (start2 (c .before .before .before .before .before)) (js2 (c .before .before .before .before .before)))
-unfolding thirdBest
+third-is : (c : tie.After-loop3 Inv-loop μ-loop Inv-loop2 μ-loop2 Inv-loop3 μ-loop3 Inv-loop4 μ-loop4)
+    → c .before .loop3 .third ≡ thirdBest (start2 (c .before .before .before .before .before) .args .normal) tolerance
+    (v1 (one (c .before .before .before .before .before)) .position) (v2 (c .before .before .before .before .before) .position)
+    (rest (start2 (c .before .before .before .before .before)) (js2 (c .before .before .before .before .before)))
 third-is c =
     let second = c .before .before .before .before .before in
     let start = start2 second in
     let a = start .args in
     let l = c .before .loop3 in
-    rw (c .before .before .sub .ensures) at
-    (search-end (thirdTurn (a .normal) (v1 (one second) .position) (c .before .before .sub .result)) (nothing tolerance) (a .t1 .vertices) (a .t1 .count) (long start) (js2 second) (l .third) (l .i3) (l .inv .0) (c .loop3-test .left) (l .inv .1))
+    third-end (a .normal) (v1 (one second) .position) (v2 second .position) (c .before .before .sub .result) (rest start (js2 second)) (l .third)
+    (c .before .before .sub .ensures)
+    (search-end (thirdTurn (a .normal) (v1 (one second) .position) (c .before .before .sub .result)) (nothing tolerance) (a .t1 .vertices)
+    (a .t1 .count) (long start) (js2 second) (l .third) (l .i3) (l .inv .0) (c .loop3-test .left) (l .inv .1))
 
-third-index : (c : tie.Else3 Inv-loop μ-loop Inv-loop2 μ-loop2 Inv-loop3 μ-loop3 Inv-loop4 μ-loop4) → c .before .before .before .loop3 .third .index < start2 (c .before .before .before .before .before .before .before) .args .t1 .count - 2
+third-index : (c : tie.Else3 Inv-loop μ-loop Inv-loop2 μ-loop2 Inv-loop3 μ-loop3 Inv-loop4 μ-loop4)
+    → c .before .before .before .loop3 .third .index < start2 (c .before .before .before .before .before .before .before) .args .t1 .count - 2
 third-index c =
     let second = c .before .before .before .before .before .before .before in
     let start = start2 second in
     let best = c .before .before .before .loop3 .third in
-    index-low start (js2 second) (best .index) (third-low (start .args .normal) (v1 (one second) .position) (v2 second .position) (rest start (js2 second)) best (third-is (c .before .before)) (not-false _ (c .if3 .left)))
+    index-low start (js2 second) (best .index) (third-low (start .args .normal) (v1 (one second) .position) (v2 second .position)
+    (rest start (js2 second)) best (third-is (c .before .before)) (not-false _ (c .if3 .left)))
 
 three-low : (c : Three) → c .standing22 .result < 64
 three-low c = low (start3 c) (js2 (two c)) (j3 c) (c .standing22 .result) (third-index (c .before)) (c .standing22 .ensures)
 
-three-taken : (c : Three) → v1 (one (two c)) ∷ v2 (two c) ∷ v3 c ∷ taken pastVertex (fourthPicks (start3 c .args .normal) (v1 (one (two c))) (v2 (two c)) (v3 c) (rest (start3 c) (js3 c))) (rest (start3 c) (js3 c)) ≡ all (start3 c)
+three-taken : (c : Three) → v1 (one (two c)) ∷ v2 (two c) ∷ v3 c
+    ∷ taken pastVertex (fourthPicks (start3 c .args .normal) (v1 (one (two c))) (v2 (two c)) (v3 c) (rest (start3 c) (js3 c)))
+    (rest (start3 c) (js3 c)) ≡ all (start3 c)
 three-taken c =
     let start = start3 c in
     let js = js2 (two c) in
     let best = c .before .before .before .before .loop3 .third in
     ap (λ (vs : List ClipVertex). v1 (one (two c)) ∷ v2 (two c) ∷ vs)
-    (a-third (start .args .normal) (v1 (one (two c))) (v2 (two c)) (rest start js) best (third-is (c .before .before .before)) (v3 c) (reads start js (best .index) (c .standing22 .result) (third-index (c .before)) (c .standing22 .ensures)) (not-false _ (c .before .if3 .left)))
+    (a-third (start .args .normal) (v1 (one (two c))) (v2 (two c)) (rest start js) best (third-is (c .before .before .before)) (v3 c)
+    (reads start js (best .index) (c .standing22 .result) (third-index (c .before)) (c .standing22 .ensures)) (not-false _ (c .before .if3 .left)))
     ∙ two-taken (two c)
 
 -- ---- the fourth
 -- a place as the code says it
-place4 : (c : Three) (i place : ℕ) → (let n = start3 c .args .t1 .count in place ≡ standing n (j1 (one (two c))) (standing (n - 1) (j2 (two c)) (standing (n - 2) (j3 c) i)))
+place4 : (c : Three) (i place : ℕ) → (let n = start3 c .args .t1 .count in
+    place ≡ standing n (j1 (one (two c))) (standing (n - 1) (j2 (two c)) (standing (n - 2) (j3 c) i)))
     → place ≡ stands (start3 c .args .t1 .count) (js3 c) i
 place4 c i place e = e ∙ stands-third (start3 c .args .t1 .count) (j1 (one (two c))) (j2 (two c)) (j3 c) i
 
 turn4-low : (c : tie.After-standing3 Inv-loop μ-loop Inv-loop2 μ-loop2 Inv-loop3 μ-loop3 Inv-loop4 μ-loop4) → c .standing3 .result < 64
-turn4-low c = let third = c .before .before .before .before .before in low (start3 third) (js3 third) (c .before .before .loop4 .i4) (c .standing3 .result) (c .before .loop4-test .taken) (place4 third (c .before .before .loop4 .i4) (c .standing3 .result) (c .standing3 .ensures))
+turn4-low c = let third = c .before .before .before .before .before in
+    low (start3 third) (js3 third) (c .before .before .loop4 .i4) (c .standing3 .result) (c .before .loop4-test .taken)
+    (place4 third (c .before .before .loop4 .i4) (c .standing3 .result) (c .standing3 .ensures))
 
 abbrev triangle : Three → Triangle
 triangle c = triangleOf (start3 c .args .normal) (v1 (one (two c)) .position) (v2 (two c) .position) (v3 c .position)
 
-triangle-is : (c : tie.After-first-three Inv-loop μ-loop Inv-loop2 μ-loop2 Inv-loop3 μ-loop3 Inv-loop4 μ-loop4) → c .first-three .result ≡ triangle (c .before .before)
-triangle-is c = rw (c .first-three .ensures)
+triangle-is : (c : tie.After-first-three Inv-loop μ-loop Inv-loop2 μ-loop2 Inv-loop3 μ-loop3 Inv-loop4 μ-loop4)
+    → c .first-three .result ≡ triangle (c .before .before)
+triangle-is c = c .first-three .ensures
 
-fourth-is : (c : tie.After-loop4 Inv-loop μ-loop Inv-loop2 μ-loop2 Inv-loop3 μ-loop3 Inv-loop4 μ-loop4) → c .before .loop4 .fourth ≡ fourthBest (start3 (c .before .before .before .before) .args .normal) tolerance (triangle (c .before .before .before .before)) (rest (start3 (c .before .before .before .before)) (js3 (c .before .before .before .before)))
-unfolding fourthBest
+fourth-is : (c : tie.After-loop4 Inv-loop μ-loop Inv-loop2 μ-loop2 Inv-loop3 μ-loop3 Inv-loop4 μ-loop4)
+    → c .before .loop4 .fourth ≡ fourthBest (start3 (c .before .before .before .before) .args .normal) tolerance
+    (triangle (c .before .before .before .before)) (rest (start3 (c .before .before .before .before)) (js3 (c .before .before .before .before)))
 fourth-is c =
     let third = c .before .before .before .before in
     let start = start3 third in
     let a = start .args in
     let l = c .before .loop4 in
-    rw (triangle-is (c .before .before)) at
-    (search-end (fourthTurn (a .normal) (c .before .before .first-three .result)) (nothing tolerance) (a .t1 .vertices) (a .t1 .count) (long start) (js3 third) (l .fourth) (l .i4) (l .inv .0) (c .loop4-test .left) (l .inv .1))
+    fourth-end (a .normal) (triangle third) (c .before .before .first-three .result) (rest start (js3 third)) (l .fourth)
+    (triangle-is (c .before .before))
+    (search-end (fourthTurn (a .normal) (c .before .before .first-three .result)) (nothing tolerance) (a .t1 .vertices) (a .t1 .count)
+    (long start) (js3 third) (l .fourth) (l .i4) (l .inv .0) (c .loop4-test .left) (l .inv .1))
 
-fourth-index : (c : tie.Else4 Inv-loop μ-loop Inv-loop2 μ-loop2 Inv-loop3 μ-loop3 Inv-loop4 μ-loop4) → c .before .before .before .loop4 .fourth .index < start3 (c .before .before .before .before .before .before) .args .t1 .count - 3
+fourth-index : (c : tie.Else4 Inv-loop μ-loop Inv-loop2 μ-loop2 Inv-loop3 μ-loop3 Inv-loop4 μ-loop4)
+    → c .before .before .before .loop4 .fourth .index < start3 (c .before .before .before .before .before .before) .args .t1 .count - 3
 fourth-index c =
     let third = c .before .before .before .before .before .before in
     let start = start3 third in
     let best = c .before .before .before .loop4 .fourth in
-    index-low start (js3 third) (best .index) (fourth-low (start .args .normal) (triangle third) (rest start (js3 third)) best (fourth-is (c .before .before)) (not-false _ (c .if4 .left)))
+    index-low start (js3 third) (best .index) (fourth-low (start .args .normal) (triangle third) (rest start (js3 third)) best
+    (fourth-is (c .before .before)) (not-false _ (c .if4 .left)))
 
 four-low : (c : Four) → c .standing32 .result < 64
 four-low c =
     let third = three c in
     let best = c .before .before .before .before .loop4 .fourth in
-    low (start3 third) (js3 third) (best .index) (c .standing32 .result) (fourth-index (c .before)) (place4 third (best .index) (c .standing32 .result) (c .standing32 .ensures))
+    low (start3 third) (js3 third) (best .index) (c .standing32 .result) (fourth-index (c .before))
+    (place4 third (best .index) (c .standing32 .result) (c .standing32 .ensures))
 
-four-taken : (c : Four) → v1 (one (two (three c))) ∷ v2 (two (three c)) ∷ v3 (three c) ∷ at (start3 (three c)) (c .standing32 .result) ∷ [] ≡ all (start3 (three c))
+four-taken : (c : Four) → v1 (one (two (three c))) ∷ v2 (two (three c)) ∷ v3 (three c) ∷ at (start3 (three c)) (c .standing32 .result)
+    ∷ [] ≡ all (start3 (three c))
 four-taken c =
     let third = three c in
     let second = two third in
     let start = start3 third in
     let best = c .before .before .before .before .loop4 .fourth in
     ap (λ (vs : List ClipVertex). v1 (one second) ∷ v2 second ∷ v3 third ∷ vs)
-    (a-fourth (start .args .normal) (v1 (one second)) (v2 second) (v3 third) (rest start (js3 third)) best (fourth-is (c .before .before .before)) (at start (c .standing32 .result))
-    (reads start (js3 third) (best .index) (c .standing32 .result) (fourth-index (c .before)) (place4 third (best .index) (c .standing32 .result) (c .standing32 .ensures))) (not-false _ (c .before .if4 .left)))
+    (a-fourth (start .args .normal) (v1 (one second)) (v2 second) (v3 third) (rest start (js3 third)) best (fourth-is (c .before .before .before))
+    (at start (c .standing32 .result))
+    (reads start (js3 third) (best .index) (c .standing32 .result) (fourth-index (c .before))
+    (place4 third (best .index) (c .standing32 .result) (c .standing32 .ensures))) (not-false _ (c .before .if4 .left)))
     ∙ three-taken third
 
 loop-holds : tie.Need-loop-holds Inv-loop μ-loop Inv-loop2 μ-loop2 Inv-loop3 μ-loop3 Inv-loop4 μ-loop4
@@ -302,7 +346,8 @@ loop-again c =
     let a = start .args in
     let l = c .before .before .before .loop in (
       omega (arith, c .before .before .loop-test .taken),
-      search-turn (firstTurn (a .direction)) (nothing (neg largest)) (a .t1 .vertices) (a .t1 .count) (long start) [] (l .first) (c .first-turn .result) (l .i) (l .i)
+      search-turn (firstTurn (a .direction)) (nothing (neg largest)) (a .t1 .vertices) (a .t1 .count) (long start) [] (l .first)
+          (c .first-turn .result) (l .i) (l .i)
           (omega (arith, c .before .before .loop-test .taken)) refl (l .inv .1) (c .first-turn .ensures),
     )
 
@@ -315,7 +360,8 @@ returns c =
     let start = c .before .before .before .before .before in
     let a = start .args in
     c .empty-contact .ensures
-    ∙ ap (contactOf (a .normal)) (no-first (a .normal) (a .direction) (cornersOf (a .t1)) (c .before .before .before .before .loop .first) (first-is (c .before .before .before)) (not-true _ (c .before .if1 .taken)))
+    ∙ ap (contactOf (a .normal)) (no-first (a .normal) (a .direction) (cornersOf (a .t1)) (c .before .before .before .before .loop .first)
+    (first-is (c .before .before .before)) (not-true _ (c .before .if1 .taken)))
 
 mul-v1 : tie.Need-mul-v1 Inv-loop μ-loop Inv-loop2 μ-loop2 Inv-loop3 μ-loop3 Inv-loop4 μ-loop4
 mul-v1 c = omega (arith, one-low c)
@@ -347,7 +393,11 @@ better-requires : tie.Need-better-requires Inv-loop μ-loop Inv-loop2 μ-loop2 I
 better-requires c κs = search needs
 
 add-i2 : tie.Need-add-i2 Inv-loop μ-loop Inv-loop2 μ-loop2 Inv-loop3 μ-loop3 Inv-loop4 μ-loop4
-add-i2 c = omega (arith, c .before .before .before .before .loop2-test .taken, start1 (c .before .before .before .before .before .before .before .before) .pre .0)
+add-i2 c = omega (
+  arith,
+  c .before .before .before .before .loop2-test .taken,
+  start1 (c .before .before .before .before .before .before .before .before) .pre .0,
+)
 
 loop2-less : tie.Need-loop2-less Inv-loop μ-loop Inv-loop2 μ-loop2 Inv-loop3 μ-loop3 Inv-loop4 μ-loop4
 loop2-less c = omega (arith, c .before .before .before .before .loop2-test .taken)
@@ -360,9 +410,10 @@ loop2-again c =
     let start = start1 first in
     let a = start .args in (
       omega (arith, read .before .loop2-test .taken),
-      search-turn (secondTurn (a .normal) (v1 first .position)) (nothing (float 0)) (a .t1 .vertices) (a .t1 .count) (long start) (js1 first) (l .second) (c .better .result) (l .i2)
+      search-turn (secondTurn (a .normal) (v1 first .position)) (nothing (float 0)) (a .t1 .vertices) (a .t1 .count) (long start) (js1 first)
+          (l .second) (c .better .result) (l .i2)
           (read .standing1 .result) (read .before .loop2-test .taken) (read .standing1 .ensures) (l .inv .1)
-          (c .better .ensures ∙ ap (betterOf (l .second) (l .i2)) (c .before .spread .ensures)),
+          (c .better .ensures ∙ ap (betterPickOf (l .second) (l .i2)) (c .before .spread .ensures)),
     )
 
 one-point-requires : tie.Need-one-point-requires Inv-loop μ-loop Inv-loop2 μ-loop2 Inv-loop3 μ-loop3 Inv-loop4 μ-loop4
@@ -375,7 +426,8 @@ returns-2 c =
     let best = c .before .before .before .before .loop2 .second in
     c .one-point .ensures
     ∙ ap (contactOf (a .normal))
-    (ap (λ (vs : List ClipVertex). v1 first ∷ vs) (no-second (a .normal) (v1 first) (rest (start1 first) (js1 first)) best (second-is (c .before .before .before)) (ap (lt (best .score)) (sym folded) ∙ c .before .if2 .taken))
+    (ap (λ (vs : List ClipVertex). v1 first ∷ vs) (no-second (a .normal) (v1 first) (rest (start1 first) (js1 first)) best
+    (second-is (c .before .before .before)) (ap (lt (best .score)) (sym folded) ∙ c .before .if2 .taken))
     ∙ one-taken first)
 
 standing1-requires-2 : tie.Need-standing1-requires-2 Inv-loop μ-loop Inv-loop2 μ-loop2 Inv-loop3 μ-loop3 Inv-loop4 μ-loop4
@@ -396,8 +448,11 @@ sub-left3 c = omega (arith, start2 (c .before .before .before) .pre .1)
 loop3-holds : tie.Need-loop3-holds Inv-loop μ-loop Inv-loop2 μ-loop2 Inv-loop3 μ-loop3 Inv-loop4 μ-loop4
 loop3-holds c =
     let second = c .before .before .before in
-    let start = start2 second in
-    (omega arith, ap nothing folded ∙ start-over (thirdTurn (start .args .normal) (v1 (one second) .position) (c .sub .result)) (nothing tolerance) (rest start (js2 second)))
+    let start = start2 second in (
+      omega arith,
+      ap nothing folded ∙ start-over (thirdTurn (start .args .normal) (v1 (one second) .position) (c .sub .result))
+          (nothing tolerance) (rest start (js2 second)),
+    )
 
 standing2-requires : tie.Need-standing2-requires Inv-loop μ-loop Inv-loop2 μ-loop2 Inv-loop3 μ-loop3 Inv-loop4 μ-loop4
 standing2-requires c κs = omega (arith, start2 (c .before .before .before .before .before) .pre .1)
@@ -418,7 +473,11 @@ as-good-requires : tie.Need-as-good-requires Inv-loop μ-loop Inv-loop2 μ-loop2
 as-good-requires c κs = search needs
 
 add-i3 : tie.Need-add-i3 Inv-loop μ-loop Inv-loop2 μ-loop2 Inv-loop3 μ-loop3 Inv-loop4 μ-loop4
-add-i3 c = omega (arith, c .before .before .before .before .before .loop3-test .taken, start2 (c .before .before .before .before .before .before .before .before .before .before) .pre .0)
+add-i3 c = omega (
+  arith,
+  c .before .before .before .before .before .loop3-test .taken,
+  start2 (c .before .before .before .before .before .before .before .before .before .before) .pre .0,
+)
 
 loop3-less : tie.Need-loop3-less Inv-loop μ-loop Inv-loop2 μ-loop2 Inv-loop3 μ-loop3 Inv-loop4 μ-loop4
 loop3-less c = omega (arith, c .before .before .before .before .before .loop3-test .taken)
@@ -430,11 +489,15 @@ loop3-again c =
     let second = read .before .before .before .before .before .before in
     let start = start2 second in
     let a = start .args in
-    let area : c .before .abs-float .result ≡ absOf (signedAreaOf (a .normal) (v1 (one second) .position) (read .before .before .before .sub .result) (at start (read .standing2 .result) .position)) =
-    rw (c .before .abs-float .ensures, c .before .before .signed-area .ensures)
+    let area : c .before .abs-float .result ≡ absOf (signedAreaOf (a .normal) (v1 (one second) .position) (read .before .before .before .sub .result)
+    (at start (read .standing2 .result) .position)) =
+    let own : c .before .before .signed-area .result ≡ signedAreaOf (a .normal) (v1 (one second) .position) (read .before .before .before .sub .result)
+    (at start (read .standing2 .result) .position) = c .before .before .signed-area .ensures in
+    c .before .abs-float .ensures ∙ ap absOf own
     in (
       omega (arith, read .before .loop3-test .taken),
-      search-turn (thirdTurn (a .normal) (v1 (one second) .position) (read .before .before .before .sub .result)) (nothing tolerance) (a .t1 .vertices) (a .t1 .count) (long start) (js2 second) (l .third) (c .as-good .result) (l .i3)
+      search-turn (thirdTurn (a .normal) (v1 (one second) .position) (read .before .before .before .sub .result)) (nothing tolerance)
+          (a .t1 .vertices) (a .t1 .count) (long start) (js2 second) (l .third) (c .as-good .result) (l .i3)
           (read .standing2 .result) (read .before .loop3-test .taken) (read .standing2 .ensures) (l .inv .1)
           (c .as-good .ensures ∙ ap (asGoodOf (l .third) (l .i3)) area),
     )
@@ -448,7 +511,9 @@ returns-3 c =
     let a = start2 second .args in
     c .two-points .ensures
     ∙ ap (contactOf (a .normal))
-    (ap (λ (vs : List ClipVertex). v1 (one second) ∷ v2 second ∷ vs) (no-third (a .normal) (v1 (one second)) (v2 second) (rest (start2 second) (js2 second)) (c .before .before .before .before .loop3 .third) (third-is (c .before .before .before)) (not-true _ (c .before .if3 .taken)))
+    (ap (λ (vs : List ClipVertex). v1 (one second) ∷ v2 second ∷ vs) (no-third (a .normal) (v1 (one second)) (v2 second)
+    (rest (start2 second) (js2 second)) (c .before .before .before .before .loop3 .third) (third-is (c .before .before .before))
+    (not-true _ (c .before .if3 .taken)))
     ∙ two-taken second)
 
 standing2-requires-2 : tie.Need-standing2-requires-2 Inv-loop μ-loop Inv-loop2 μ-loop2 Inv-loop3 μ-loop3 Inv-loop4 μ-loop4
@@ -488,7 +553,11 @@ better-requires-2 : tie.Need-better-requires-2 Inv-loop μ-loop Inv-loop2 μ-loo
 better-requires-2 c κs = search needs
 
 add-i4 : tie.Need-add-i4 Inv-loop μ-loop Inv-loop2 μ-loop2 Inv-loop3 μ-loop3 Inv-loop4 μ-loop4
-add-i4 c = omega (arith, c .before .before .before .before .loop4-test .taken, start3 (c .before .before .before .before .before .before .before .before) .pre .0)
+add-i4 c = omega (
+  arith,
+  c .before .before .before .before .loop4-test .taken,
+  start3 (c .before .before .before .before .before .before .before .before) .pre .0,
+)
 
 loop4-less : tie.Need-loop4-less Inv-loop μ-loop Inv-loop2 μ-loop2 Inv-loop3 μ-loop3 Inv-loop4 μ-loop4
 loop4-less c = omega (arith, c .before .before .before .before .loop4-test .taken)
@@ -501,9 +570,10 @@ loop4-again c =
     let start = start3 third in
     let a = start .args in (
       omega (arith, read .before .loop4-test .taken),
-      search-turn (fourthTurn (a .normal) (read .before .before .before .first-three .result)) (nothing tolerance) (a .t1 .vertices) (a .t1 .count) (long start) (js3 third) (l .fourth) (c .better2 .result) (l .i4)
+      search-turn (fourthTurn (a .normal) (read .before .before .before .first-three .result)) (nothing tolerance) (a .t1 .vertices)
+          (a .t1 .count) (long start) (js3 third) (l .fourth) (c .better2 .result) (l .i4)
           (read .standing3 .result) (read .before .loop4-test .taken) (place4 third (l .i4) (read .standing3 .result) (read .standing3 .ensures)) (l .inv .1)
-          (c .better2 .ensures ∙ ap (betterOf (l .fourth) (l .i4)) (c .before .outside .ensures)),
+          (c .better2 .ensures ∙ ap (betterPickOf (l .fourth) (l .i4)) (c .before .outside .ensures)),
     )
 
 three-points-requires : tie.Need-three-points-requires Inv-loop μ-loop Inv-loop2 μ-loop2 Inv-loop3 μ-loop3 Inv-loop4 μ-loop4
@@ -514,10 +584,12 @@ returns-4 c =
     let third = c .before .before .before .before .before .before .before in
     let second = two third in
     let a = start3 third .args in
-    let made : c .three-points .result ≡ contactOf (a .normal) (v1 (one second) ∷ v2 second ∷ v3 third ∷ []) = rw (c .three-points .ensures) in
+    let made : c .three-points .result ≡ contactOf (a .normal) (v1 (one second) ∷ v2 second ∷ v3 third ∷ []) = c .three-points .ensures in
     made
     ∙ ap (contactOf (a .normal))
-    (ap (λ (vs : List ClipVertex). v1 (one second) ∷ v2 second ∷ v3 third ∷ vs) (no-fourth (a .normal) (v1 (one second)) (v2 second) (v3 third) (rest (start3 third) (js3 third)) (c .before .before .before .before .loop4 .fourth) (fourth-is (c .before .before .before)) (not-true _ (c .before .if4 .taken)))
+    (ap (λ (vs : List ClipVertex). v1 (one second) ∷ v2 second ∷ v3 third ∷ vs) (no-fourth (a .normal) (v1 (one second)) (v2 second) (v3 third)
+    (rest (start3 third) (js3 third)) (c .before .before .before .before .loop4 .fourth) (fourth-is (c .before .before .before))
+    (not-true _ (c .before .if4 .taken)))
     ∙ three-taken third)
 
 standing3-requires-2 : tie.Need-standing3-requires-2 Inv-loop μ-loop Inv-loop2 μ-loop2 Inv-loop3 μ-loop3 Inv-loop4 μ-loop4
@@ -536,7 +608,8 @@ returns-5 : tie.Need-returns-5 Inv-loop μ-loop Inv-loop2 μ-loop2 Inv-loop3 μ-
 returns-5 c =
     let third = three (c .before .before) in
     let start = start3 third in
-    let made : c .four-points .result ≡ contactOf (start .args .normal) (v1 (one (two third)) ∷ v2 (two third) ∷ v3 third ∷ at start (c .before .before .standing32 .result) ∷ []) = rw (c .four-points .ensures) in
+    let made : c .four-points .result ≡ contactOf (start .args .normal) (v1 (one (two third)) ∷ v2 (two third) ∷ v3 third
+    ∷ at start (c .before .before .standing32 .result) ∷ []) = c .four-points .ensures in
     made ∙ ap (contactOf (start .args .normal)) (four-taken (c .before .before))
 
 pub picked-spec : {M : Type 1} → statement M

@@ -5,7 +5,7 @@ use native.Mathlib.Omega.{arith}
 use lib.ListN.{length, length-map}
 use Rattle.manifold.specs.Polygons.{cornersOf}
 use Rattle.manifold.proofs.Polygons.{length-corners}
-use Rattle.points.specs.Points.{contactOf}
+use Rattle.reduce_points.specs.Points.{contactOf}
 use Rattle.reduce.proofs.Picks.{all-kept, picks-kept}
 use Rattle.reduce.proofs.reduce_manifold_points.Statement.{statement}
 use Rattle.reduce.proofs.reduce_manifold_points.Tie as tie
@@ -22,7 +22,8 @@ returns : tie.Need-returns
 returns c =
     let start = c .before .before .before in
     let a = start .args in
-    c .all-points .ensures ∙ ap (contactOf (a .normal)) (all-kept (a .direction) (a .normal) (cornersOf (a .points)) (omega (arith, sized start, c .before .if1 .taken)))
+    c .all-points .ensures ∙ ap (contactOf (a .normal)) (all-kept (a .direction) (a .normal) (cornersOf (a .points))
+    (omega (arith, sized start, c .before .if1 .taken)))
 
 picked-requires : tie.Need-picked-requires
 picked-requires c κs = (c .before .before .pre, c .if1 .left)
@@ -31,7 +32,8 @@ returns-2 : tie.Need-returns-2
 returns-2 c =
     let start = c .before .before .before in
     let a = start .args in
-    c .picked .ensures ∙ ap (contactOf (a .normal)) (picks-kept (a .direction) (a .normal) (cornersOf (a .points)) (omega (arith, sized start, c .before .if1 .left)))
+    c .picked .ensures ∙ ap (contactOf (a .normal)) (picks-kept (a .direction) (a .normal) (cornersOf (a .points))
+    (omega (arith, sized start, c .before .if1 .left)))
 
 pub reduce-manifold-points-spec : {M : Type 1} → statement M
 reduce-manifold-points-spec =

@@ -12,7 +12,8 @@ bounds d y h g =
     let raised = mul-le-mul (le-of-lt h) g in
     (raised, mul-le-mul raised g)
 
-at : (c : tie.After-inverse) → (c .before .args .digits * c .inverse .result ≤ 16777216 * 884724) × (c .before .args .digits * c .inverse .result * c .inverse .result ≤ 16777216 * 884724 * 884724)
+at : (c : tie.After-inverse) → (c .before .args .digits * c .inverse .result ≤ 16777216 * 884724)
+    × (c .before .args .digits * c .inverse .result * c .inverse .result ≤ 16777216 * 884724 * 884724)
 at c = bounds (c .before .args .digits) (c .inverse .result) (omega arith) (c .inverse .ensures)
 
 -- `scaled` times `curve`

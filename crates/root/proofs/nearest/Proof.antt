@@ -1,4 +1,5 @@
--- `root::nearest` meets its contract, whatever the guess. After the first loop g is not too small, and the second keeps that until g is not too large. Assumes nothing.
+-- `root::nearest` meets its contract, whatever the guess. After the first loop g is not too small, and the second keeps that until g is not too
+-- large. Assumes nothing.
 use Prim.Native.Nat.{ℕ, _≤_, _<_, _-_, _*_, _+_}
 use native.Mathlib.Omega.{arith}
 use Rattle.root.proofs.Squares.{product, positive, one-less, small}

@@ -40,7 +40,8 @@ returns-2 c =
     let x = s .args .x in
     let r = c .pattern-of-root .result in
     both s (ofBits binary32 r) (ofBits-fits binary32 r)
-    (of-bits x (toBits binary32 x) r (ofBits-toBits binary32 x (held s)) (above-bits x (held s) (c .before .before .if1 .taken)) (omega arith) (c .pattern-of-root .ensures))
+    (of-bits x (toBits binary32 x) r (ofBits-toBits binary32 x (held s)) (above-bits x (held s) (c .before .before .if1 .taken)) (omega arith)
+    (c .pattern-of-root .ensures))
 
 returns-3 : tie.Need-returns-3
 returns-3 c =

@@ -16,7 +16,11 @@ same-length : tie.Need-same-length
 same-length c = search needs
 
 returns : tie.Need-returns
-returns c = (answer-most _ (c .before .before .line-answer .ensures), puts-whole _ (sym (c .before .before .before .before .before .is-nothing .ensures) ∙ c .before .before .before .before .if1 .taken) (c .before .before .line-answer .ensures))
+returns c = (
+  answer-most _ (c .before .before .line-answer .ensures),
+  puts-whole _ (sym (c .before .before .before .before .before .is-nothing .ensures) ∙ c .before .before .before .before .if1 .taken)
+      (c .before .before .line-answer .ensures),
+)
 
 hold-requires : tie.Need-hold-requires
 hold-requires c κs = search needs
@@ -31,7 +35,11 @@ same-length-3 : tie.Need-same-length-3
 same-length-3 c = search needs
 
 returns-2 : tie.Need-returns-2
-returns-2 c = (c .before .before .answer-held .ensures .0, puts-grown (c .before .before .before .before .before .before .before .hold .ensures) (c .before .before .answer-held .ensures .1))
+returns-2 c = (
+  c .before .before .answer-held .ensures .0,
+  puts-grown (c .before .before .before .before .before .before .before .hold .ensures)
+      (c .before .before .answer-held .ensures .1),
+)
 
 pub answer-ended-spec : {M : Type 1} → statement M
 answer-ended-spec =

@@ -1,6 +1,6 @@
 -- ff24, or the answer to what is kept.
 use native.Mathlib.Omega.{arith}
-use Rattle.hex.specs.Hex.{hexOf}
+use Rattle.frame_hex.specs.Hex.{hexOf}
 use lib.ListN.{length-take}
 use Rattle.stream.proofs.Tells.{answer-most, puts-long, puts-kept}
 use borrow.Author.Needs.{needs}
@@ -15,7 +15,11 @@ same-length c = search needs
 
 returns : tie.Need-returns
 unfolding hexOf
-returns c = (omega (arith, c .before .before .put-long .ensures .count), puts-long (c .before .before .before .before .if1 .taken) (c .before .before .put-long .ensures))
+returns c = (
+  omega (arith, c .before .before .put-long .ensures .count),
+  puts-long (c .before .before .before .before .if1 .taken)
+      (c .before .before .put-long .ensures),
+)
 
 slice-aggregate-line-answer : tie.Need-slice-aggregate-line-answer
 slice-aggregate-line-answer c = simp length-take (omega arith)
@@ -27,7 +31,11 @@ same-length-2 : tie.Need-same-length-2
 same-length-2 c = search needs
 
 returns-2 : tie.Need-returns-2
-returns-2 c = (answer-most _ (c .before .before .line-answer .ensures), puts-kept (c .before .before .before .before .before .if1 .left) (c .before .before .line-answer .ensures))
+returns-2 c = (
+  answer-most _ (c .before .before .line-answer .ensures),
+  puts-kept (c .before .before .before .before .before .if1 .left)
+      (c .before .before .line-answer .ensures),
+)
 
 pub answer-held-spec : {M : Type 1} → statement M
 answer-held-spec =

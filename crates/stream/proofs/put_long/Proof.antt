@@ -1,8 +1,8 @@
 -- The four characters, one behind the other.
 use mathlib.Core.Path.{refl}
 use native.Mathlib.Omega.{arith}
-use Rattle.hex.specs.Hex.{hexOf, digitOf}
-use Rattle.encode.proofs.Written.{then, front}
+use Rattle.frame_hex.specs.Hex.{hexOf, digitOf}
+use Rattle.frame_encode.proofs.Written.{then, front}
 use borrow.Author.Needs.{needs}
 use Rattle.stream.proofs.put_long.Statement.{statement}
 use Rattle.stream.proofs.put_long.Tie as tie
@@ -24,7 +24,13 @@ same-length c = search needs
 
 returns : tie.Need-returns
 unfolding hexOf digitOf
-returns c = record { count = refl; bytes = front (then (then (then (c .before .before .before .before .before .before .before .before .before .before .before .before .before .before .put-byte .ensures) (c .before .before .before .before .before .before .before .before .before .before .put-byte2 .ensures) refl) (c .before .before .before .before .before .before .put-byte3 .ensures) refl) (c .before .before .put-byte4 .ensures) refl) (omega arith) }
+returns c = record {
+  count = refl;
+  bytes = front (then (then (then
+      (c .before .before .before .before .before .before .before .before .before .before .before .before .before .before .put-byte .ensures)
+      (c .before .before .before .before .before .before .before .before .before .before .put-byte2 .ensures) refl)
+      (c .before .before .before .before .before .before .put-byte3 .ensures) refl) (c .before .before .put-byte4 .ensures) refl) (omega arith);
+}
 
 pub put-long-spec : {M : Type 1} → statement M
 put-long-spec =

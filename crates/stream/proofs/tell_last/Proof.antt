@@ -22,7 +22,14 @@ same-length : tie.Need-same-length
 same-length c = search needs
 
 returns-2 : tie.Need-returns-2
-returns-2 c = (omega arith, last-held (sym (c .before .before .before .before .before .before .before .before .before .is-nothing .ensures) ∙ c .before .before .before .before .before .before .before .before .if1 .left) (c .before .before .before .before .before .before .before .before .before .before .before .before .pre .0) (puts-end (c .before .before .before .before .before .before .answer-held .ensures .1) (omega arith) (c .before .before .end-line .ensures .0) (c .before .before .end-line .ensures .1)))
+returns-2 c = (
+  omega arith,
+  last-held (sym (c .before .before .before .before .before .before .before .before .before .is-nothing .ensures)
+      ∙ c .before .before .before .before .before .before .before .before .if1 .left)
+      (c .before .before .before .before .before .before .before .before .before .before .before .before .pre .0)
+      (puts-end (c .before .before .before .before .before .before .answer-held .ensures .1) (omega arith) (c .before .before .end-line .ensures .0)
+      (c .before .before .end-line .ensures .1)),
+)
 
 pub tell-last-spec : {M : Type 1} → statement M
 tell-last-spec =

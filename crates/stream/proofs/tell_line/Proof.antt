@@ -18,7 +18,11 @@ same-length-2 : tie.Need-same-length-2
 same-length-2 c = search needs
 
 returns : tie.Need-returns
-returns c = (omega arith, puts-end (c .before .before .before .before .before .before .before .before .answer-ended .ensures .1) (omega arith) (c .before .before .end-line .ensures .0) (c .before .before .end-line .ensures .1))
+returns c = (
+  omega arith,
+  puts-end (c .before .before .before .before .before .before .before .before .answer-ended .ensures .1) (omega arith)
+      (c .before .before .end-line .ensures .0) (c .before .before .end-line .ensures .1),
+)
 
 pub tell-line-spec : {M : Type 1} → statement M
 tell-line-spec =

@@ -25,7 +25,12 @@ same-length-2 : tie.Need-same-length-2
 same-length-2 c = search needs
 
 returns : tie.Need-returns
-returns c = (omega arith, omega arith, tells-line (c .before .before .before .before .before .before .before .before .before .line-end .ensures) (c .before .before .before .before .before .before .before .before .if1 .taken) (omega arith) (c .before .before .before .before .tell-line .ensures .1))
+returns c = (
+  omega arith,
+  omega arith,
+  tells-line (c .before .before .before .before .before .before .before .before .before .line-end .ensures)
+      (c .before .before .before .before .before .before .before .before .if1 .taken) (omega arith) (c .before .before .before .before .tell-line .ensures .1),
+)
 
 hold-requires : tie.Need-hold-requires
 hold-requires c κs = search needs
@@ -34,7 +39,12 @@ same-length-3 : tie.Need-same-length-3
 same-length-3 c = search needs
 
 returns-2 : tie.Need-returns-2
-returns-2 c = (omega arith, omega arith, tells-rest (c .before .before .before .before .before .line-end .ensures) (c .before .before .before .before .if1 .left) (c .before .before .hold .ensures))
+returns-2 c = (
+  omega arith,
+  omega arith,
+  tells-rest (c .before .before .before .before .before .line-end .ensures)
+      (c .before .before .before .before .if1 .left) (c .before .before .hold .ensures),
+)
 
 pub tell-next-spec : {M : Type 1} → statement M
 tell-next-spec =

@@ -16,7 +16,8 @@ use Rattle.stream.proofs.tell_part.Statement.{statement}
 use Rattle.stream.proofs.tell_part.Tie as tie
 
 abbrev Inv-loop : tie.InvT-loop
-Inv-loop chunk line₀ out₀ i₀ q₀ n₀ line out i q n = (n ≤ length out₀) × (n ≤ 207 * i) × (length line ≡ length line₀) × (length out ≡ length out₀) × Tells chunk line₀ q₀ out₀ (record { taken = i; held = q; count = n }) line out
+Inv-loop chunk line₀ out₀ i₀ q₀ n₀ line out i q n = (n ≤ length out₀) × (n ≤ 207 * i) × (length line ≡ length line₀) × (length out ≡ length out₀)
+    × Tells chunk line₀ q₀ out₀ (record { taken = i; held = q; count = n }) line out
 
 abbrev μ-loop : tie.MeasureT-loop
 μ-loop chunk line₀ out₀ i₀ q₀ n₀ line out i q n = length chunk - i
@@ -46,19 +47,37 @@ part-tell-next-end-2 : tie.Need-part-tell-next-end-2 Inv-loop μ-loop
 part-tell-next-end-2 c = omega arith
 
 tell-next-requires : tie.Need-tell-next-requires Inv-loop μ-loop
-tell-next-requires c κs = let g = c .before .before .before .before .goes-on .ensures .0 (c .before .before .before .if1 .taken) in (simp (length-take, length-drop) (omega arith), c .before .before .before .before .before .loop .inv .4 .ready, simp (length-take, length-drop) (omega arith))
+tell-next-requires c κs = let g = c .before .before .before .before .goes-on .ensures .0 (c .before .before .before .if1 .taken) in (
+  simp (length-take, length-drop) (omega arith),
+  c .before .before .before .before .before .loop .inv .4 .ready,
+  simp (length-take, length-drop) (omega arith),
+)
 
 add-i : tie.Need-add-i Inv-loop μ-loop
 add-i c = omega (arith, simp (length-take, length-drop) at (c .before .before .before .before .before .tell-next .ensures .2 .taken))
 
 add-n : tie.Need-add-n Inv-loop μ-loop
-add-n c = let g = c .before .before .before .before .before .before .before .before .before .before .before .before .goes-on .ensures .0 (c .before .before .before .before .before .before .before .before .before .before .before .if1 .taken) in omega (arith, c .before .before .before .before .before .before .before .tell-next .ensures .1)
+add-n c = let g = c .before .before .before .before .before .before .before .before .before .before .before .before .goes-on .ensures .0
+    (c .before .before .before .before .before .before .before .before .before .before .before .if1 .taken) in
+    omega (arith, c .before .before .before .before .before .before .before .tell-next .ensures .1)
 
 loop-less : tie.Need-loop-less Inv-loop μ-loop
-loop-less c = let g = c .before .before .before .before .before .before .before .before .before .before .before .before .goes-on .ensures .0 (c .before .before .before .before .before .before .before .before .before .before .before .if1 .taken) in omega (arith, c .before .before .before .before .before .before .before .tell-next .ensures .0)
+loop-less c = let g = c .before .before .before .before .before .before .before .before .before .before .before .before .goes-on .ensures .0
+    (c .before .before .before .before .before .before .before .before .before .before .before .if1 .taken) in
+    omega (arith, c .before .before .before .before .before .before .before .tell-next .ensures .0)
 
 loop-again : tie.Need-loop-again Inv-loop μ-loop
-loop-again c = let g = c .before .before .before .before .before .before .before .before .before .before .before .before .goes-on .ensures .0 (c .before .before .before .before .before .before .before .before .before .before .before .if1 .taken) in (omega arith, omega arith, omega arith, (let w = c .before .before .before .before .before .before .before .before .before .before .before .before .before .loop in let t = c .before .before .before .before .before .before .before .tell-next in same-len-mid (w .n) (length (w .out) - w .n) (w .out) (t .last .1 .1 .1 .0) (t .kept .1 .1 .1 .0) ∙ w .inv .3), tells-next (omega arith) (c .before .before .before .before .before .before .before .before .before .before .before .before .before .loop .inv .4) (c .before .before .before .before .before .before .before .tell-next .ensures .2))
+loop-again c = let g = c .before .before .before .before .before .before .before .before .before .before .before .before .goes-on .ensures .0
+    (c .before .before .before .before .before .before .before .before .before .before .before .if1 .taken) in (
+      omega arith,
+      omega arith,
+      omega arith,
+      (let w = c .before .before .before .before .before .before .before .before .before .before .before .before .before .loop in
+          let t = c .before .before .before .before .before .before .before .tell-next in
+          same-len-mid (w .n) (length (w .out) - w .n) (w .out) (t .last .1 .1 .1 .0) (t .kept .1 .1 .1 .0) ∙ w .inv .3),
+      tells-next (omega arith) (c .before .before .before .before .before .before .before .before .before .before .before .before .before .loop .inv .4)
+          (c .before .before .before .before .before .before .before .tell-next .ensures .2),
+    )
 
 same-length : tie.Need-same-length Inv-loop μ-loop
 same-length c = omega arith
@@ -68,8 +87,14 @@ same-length-2 c = omega arith
 
 returns : tie.Need-returns Inv-loop μ-loop
 returns c = let g = c .before .goes-on .ensures .1 (c .if1 .left) in
-    let ends : c .before .before .loop .i < length (c .before .before .before .before .before .before .args .chunk .now) → length (c .before .before .before .before .before .before .args .out .now) < c .before .before .loop .n + 207 = λ l. let h = g l in omega arith in
-    (moves _ _ _ _ (c .before .before .loop .inv .1) (c .before .before .before .before .before .before .pre .2) (c .before .before .before .before .before .before .pre .0) ends, omega arith, ends, c .before .before .loop .inv .4)
+    let ends : c .before .before .loop .i < length (c .before .before .before .before .before .before .args .chunk .now)
+    → length (c .before .before .before .before .before .before .args .out .now) < c .before .before .loop .n + 207 = λ l. let h = g l in omega arith in (
+      moves _ _ _ _ (c .before .before .loop .inv .1) (c .before .before .before .before .before .before .pre .2)
+          (c .before .before .before .before .before .before .pre .0) ends,
+      omega arith,
+      ends,
+      c .before .before .loop .inv .4,
+    )
 
 pub tell-part-spec : {M : Type 1} → statement M
 tell-part-spec =

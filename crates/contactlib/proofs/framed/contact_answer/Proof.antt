@@ -15,7 +15,8 @@ same-length : tie.Need-same-length
 same-length c = search needs
 
 returns-2 : tie.Need-returns-2
-returns-2 c = let room = c .before .before .before .before .if1 .left in record { short = λ h. absurd (omega arith); answers = λ h. c .before .before .frame-answer .ensures }
+returns-2 c = let room = c .before .before .before .before .if1 .left in
+    record { short = λ h. absurd (omega arith); answers = λ h. c .before .before .frame-answer .ensures }
 
 pub contact-answer-spec : {M : Type 1} → statement M
 contact-answer-spec = tie.close (tie.spec returns frame-answer-requires same-length returns-2)

@@ -17,7 +17,8 @@ missed-requires c κs = search needs
 returns : tie.Need-returns
 unfolding alongOf
 returns c = let w = c .before .before in
-    let out : isWithinSegmentsOf (c .before .before .before .args .nearest) ≡ false = sym (w .is-within-segments .ensures) ∙ not-true _ (c .before .if1 .taken) in
+    let out : isWithinSegmentsOf (c .before .before .before .args .nearest) ≡ false = sym (w .is-within-segments .ensures)
+    ∙ not-true _ (c .before .if1 .taken) in
     simp (out, c .missed .ensures)
 
 sub-requires : tie.Need-sub-requires
@@ -44,8 +45,18 @@ touched-requires c κs = search needs
 returns-2 : tie.Need-returns-2
 unfolding edgePoint alongOf
 returns-2 c = let w = c .before .before .before .before .before .before .before .before in
-    let within : isWithinSegmentsOf (c .before .before .before .before .before .before .before .before .before .args .nearest) ≡ true = sym (w .is-within-segments .ensures) ∙ not-false _ (c .before .before .before .before .before .before .before .if1 .left) in
-    simp (within, c .touched .ensures, c .before .one-point .ensures, c .before .before .make-feature-pair .ensures, c .before .before .before .mul-sv .ensures, c .before .before .before .before .add .ensures, c .before .before .before .before .before .dot .ensures, c .before .before .before .before .before .before .sub .ensures)
+    let within : isWithinSegmentsOf (c .before .before .before .before .before .before .before .before .before .args .nearest) ≡ true =
+    sym (w .is-within-segments .ensures) ∙ not-false _ (c .before .before .before .before .before .before .before .if1 .left) in
+    simp (
+      within,
+      c .touched .ensures,
+      c .before .one-point .ensures,
+      c .before .before .make-feature-pair .ensures,
+      c .before .before .before .mul-sv .ensures,
+      c .before .before .before .before .add .ensures,
+      c .before .before .before .before .before .dot .ensures,
+      c .before .before .before .before .before .before .sub .ensures,
+    )
 
 pub along-spec : {M : Type 1} → statement M
 along-spec =

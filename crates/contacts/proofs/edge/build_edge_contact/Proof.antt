@@ -1,7 +1,7 @@
 -- `build_edge_contact`: the ends of both edges are vertices, and the calls are the definition, one after the other.
 use Rattle.hull.proofs.Hulls.{at-twin, at-origin}
-use Rattle.contacts.specs.EdgePairs.{nearestOf, edgeContactOf}
 use borrow.Author.Needs.{needs}
+use Rattle.contacts.proofs.Ends.{near-end, far-end, of-ends}
 use Rattle.contacts.proofs.edge.build_edge_contact.Statement.{statement}
 use Rattle.contacts.proofs.edge.build_edge_contact.Tie as tie
 
@@ -62,8 +62,24 @@ along-requires : tie.Need-along-requires
 along-requires c κs = search needs
 
 returns : tie.Need-returns
-unfolding nearestOf edgeContactOf
-returns c = simp (c .along .ensures, c .before .line-distance .ensures, c .before .before .sub2 .ensures, c .before .before .before .sub .ensures, c .before .before .before .before .transform-point2 .ensures, c .before .before .before .before .before .vertex-at4 .ensures, c .before .before .before .before .before .before .origin-of4 .ensures, c .before .before .before .before .before .before .before .transform-point .ensures, c .before .before .before .before .before .before .before .before .vertex-at3 .ensures, c .before .before .before .before .before .before .before .before .before .origin-of3 .ensures, c .before .before .before .before .before .before .before .before .before .before .twin-of2 .ensures, c .before .before .before .before .before .before .before .before .before .before .before .vertex-at2 .ensures, c .before .before .before .before .before .before .before .before .before .before .before .before .origin-of2 .ensures, c .before .before .before .before .before .before .before .before .before .before .before .before .before .vertex-at .ensures, c .before .before .before .before .before .before .before .before .before .before .before .before .before .before .origin-of .ensures, c .before .before .before .before .before .before .before .before .before .before .before .before .before .before .before .twin-of .ensures)
+returns c =
+    let c4 = c .before .before .before .before in
+    let c8 = c4 .before .before .before .before in
+    let c12 = c8 .before .before .before .before in
+    let twinA = c12 .before .before .before in
+    let twinB = c8 .before .before in
+    let a = twinA .before .before .before .before .before .args in
+    let nA = a .numbers-a .now in
+    let lA = a .links-a .now in
+    let nB = a .numbers-b .now in
+    let lB = a .links-b .now in
+    of-ends (a .size-a) nA lA (a .size-b) nB lB (a .transform) (a .normal) (a .edge-a) (a .edge-b) _ _ _ _ _ _ _ _ _ _
+    (near-end (a .size-a) nA lA (a .edge-a) _ _ (c12 .before .before .origin-of .ensures) (c12 .before .vertex-at .ensures))
+    (far-end (a .size-a) nA lA (a .edge-a) _ _ _ (twinA .twin-of .ensures) (c12 .origin-of2 .ensures) (c8 .before .before .before .vertex-at2 .ensures))
+    (near-end (a .size-b) nB lB (a .edge-b) _ _ (c8 .before .origin-of3 .ensures) (c8 .vertex-at3 .ensures))
+    (far-end (a .size-b) nB lB (a .edge-b) _ _ _ (twinB .twin-of2 .ensures) (c4 .before .before .origin-of4 .ensures) (c4 .before .vertex-at4 .ensures))
+    (c4 .before .before .before .transform-point .ensures) (c4 .transform-point2 .ensures) (c .before .before .before .sub .ensures)
+    (c .before .before .sub2 .ensures) (c .before .line-distance .ensures) (c .along .ensures)
 
 pub build-edge-contact-spec : {M : Type 1} → statement M
 build-edge-contact-spec =

@@ -1,7 +1,7 @@
 -- `build_face_a_contact`: a vertex that B does not have, a 65th corner, or the contact of all candidates.
 use mathlib.Core.Path.{_≡_, _∙_}
 use mathlib.Core.Bool.{true, false}
-use Rattle.corners.proofs.Results.{counted-most}
+use Rattle.clip_corners.proofs.Results.{counted-most}
 use Rattle.contacts.proofs.Cases.{past-vertices, cut-full, cut-whole}
 use borrow.Author.Needs.{needs}
 use Rattle.contacts.proofs.face.build_face_a_contact.Statement.{statement}
@@ -33,7 +33,8 @@ on-face-requires c κs = counted-most _ _ (c .before .before .before .candidates
 returns-3 : tie.Need-returns-3
 returns-3 c = let k = c .before .before .before .before in
     let whole : k .candidates .result .full ≡ false = c .before .before .before .if2 .left in
-    cut-whole _ _ _ _ _ _ _ _ _ (c .before .before .before .before .before .if1 .left) _ (k .candidates .ensures) whole _ (c .before .before .plane-at .ensures) _ (c .on-face .ensures)
+    cut-whole _ _ _ _ _ _ _ _ _ (c .before .before .before .before .before .if1 .left) _ (k .candidates .ensures) whole _
+    (c .before .before .plane-at .ensures) _ (c .on-face .ensures)
 
 pub build-face-a-contact-spec : {M : Type 1} → statement M
 build-face-a-contact-spec =

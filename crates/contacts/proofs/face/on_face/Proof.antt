@@ -28,7 +28,8 @@ returns c = let s = c .before .before .before .before in
     let z = c .before .before .before in
     let t = c .before .before in
     let no : t .touching .result ≡ false = not-true _ (c .before .if1 .taken) in
-    c .missed .ensures ∙ builds-none (s .args .candidates) (s .args .normal) (s .args .face) (s .args .vertex) (s .pre) (long s) _ (z .least-separation .ensures) _ (t .touching .ensures) no
+    c .missed .ensures ∙ builds-none (s .args .candidates) (s .args .normal) (s .args .face) (s .args .vertex) (s .pre) (long s) _
+    (z .least-separation .ensures) _ (t .touching .ensures) no
 
 images-requires : tie.Need-images-requires
 images-requires c κs = search needs
@@ -48,8 +49,10 @@ returns-2 c = let s = c .before .before .before .before .before .before .before 
     let z = c .before .before .before .before .before .before in
     let t = c .before .before .before .before .before in
     let yes : t .touching .result ≡ true = not-false _ (c .before .before .before .before .if1 .left) in
-    builds-one (s .args .candidates) (s .args .normal) (s .args .face) (s .args .vertex) (s .pre) (long s) _ (z .least-separation .ensures) _ (t .touching .ensures) yes
-    _ _ _ (c .before .before .before .images .ensures) (c .before .before .arbitrary-perp .ensures) (c .before .reduce-manifold-points .ensures) _ (c .touched .ensures)
+    builds-one (s .args .candidates) (s .args .normal) (s .args .face) (s .args .vertex) (s .pre) (long s) _ (z .least-separation .ensures)
+    _ (t .touching .ensures) yes
+    _ _ _ (c .before .before .before .images .ensures) (c .before .before .arbitrary-perp .ensures) (c .before .reduce-manifold-points .ensures)
+    _ (c .touched .ensures)
 
 pub on-face-spec : {M : Type 1} → statement M
 on-face-spec =

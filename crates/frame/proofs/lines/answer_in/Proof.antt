@@ -13,7 +13,8 @@ slice-reshare-prefix-frame-answer : tie.Need-slice-reshare-prefix-frame-answer
 slice-reshare-prefix-frame-answer c = search needs
 
 slice-aggregate-frame-answer : tie.Need-slice-aggregate-frame-answer
-slice-aggregate-frame-answer c = bytes-long (c .before .before .before .before .before .before .before .before .args .line .now) (c .before .before .before .take-bytes .ensures) (c .before .before .before .before .before .before .before .before .pre .1)
+slice-aggregate-frame-answer c = bytes-long (c .before .before .before .before .before .before .before .before .args .line .now)
+    (c .before .before .before .take-bytes .ensures) (c .before .before .before .before .before .before .before .before .pre .1)
 
 frame-answer-requires : tie.Need-frame-answer-requires
 frame-answer-requires c κs = search needs
@@ -25,7 +26,10 @@ same-length-2 : tie.Need-same-length-2
 same-length-2 c = search needs
 
 returns : tie.Need-returns
-returns c = answers-same (c .before .before .frame-answer .ensures) (ap frameAnswer (bytes-first (c .before .before .before .before .before .before .before .before .before .before .before .before .args .line .now) (c .before .before .before .before .before .before .before .take-bytes .ensures) (c .before .before .before .before .before .before .before .before .before .before .before .before .pre .1)))
+returns c = answers-same (c .before .before .frame-answer .ensures)
+    (ap frameAnswer (bytes-first (c .before .before .before .before .before .before .before .before .before .before .before .before .args .line .now)
+    (c .before .before .before .before .before .before .before .take-bytes .ensures)
+    (c .before .before .before .before .before .before .before .before .before .before .before .before .pre .1)))
 
 pub answer-in-spec : {M : Type 1} → statement M
 answer-in-spec =

@@ -3,7 +3,7 @@ use mathlib.Core.Path.{ap, ap₂, _∙_}
 use native.Mathlib.Omega.{arith}
 use borrow.Author.Needs.{needs}
 use Rattle.hull.specs.Numbers.{vertexAt}
-use Rattle.measures.specs.Measures.{endsApart}
+use Rattle.hull_limits.specs.Measures.{endsApart}
 use Rattle.hull.specs.Rule8.{edgeLong}
 use Rattle.hull.proofs.Laws.{origin-in-list}
 use Rattle.hull.proofs.rule8.edge_long.Statement.{statement}

@@ -5,8 +5,8 @@ use Prim.Native.Nat.{_-_, _≤_}
 use native.Mathlib.Omega.{arith}
 use borrow.Author.Tests.{not-true, not-false}
 use borrow.Author.Needs.{needs}
-use Rattle.links.specs.Tests.{all}
-use Rattle.links.proofs.Tests.{all-none, all-more, all-done, all-fails}
+use Rattle.hull_links.specs.Tests.{all}
+use Rattle.hull_links.proofs.Tests.{all-none, all-more, all-done, all-fails}
 use Rattle.hull.specs.Rule8.{edgeLong}
 use Rattle.hull.proofs.rule8.edges_long.Statement.{statement}
 use Rattle.hull.proofs.rule8.edges_long.Tie as tie

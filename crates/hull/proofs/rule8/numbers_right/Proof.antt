@@ -11,7 +11,8 @@ numbers-small-requires : tie.Need-numbers-small-requires
 numbers-small-requires c κs = search needs
 
 returns : tie.Need-returns
-returns c = refuses _ _ _ _ (c .if1 .taken) (c .before .numbers-small .ensures) (λ p. part-small (c .before .before .before .before .args .size) _ _ _ (p .smalls) (omega arith))
+returns c = refuses _ _ _ _ (c .if1 .taken) (c .before .numbers-small .ensures) (λ p. part-small (c .before .before .before .before .args .size)
+    _ _ _ (p .smalls) (omega arith))
 
 padding-small-requires : tie.Need-padding-small-requires
 padding-small-requires c κs = search needs

@@ -3,8 +3,8 @@ use mathlib.Core.Path.{_≡_, sym}
 use Prim.Native.Nat.{_-_, _≤_}
 use native.Mathlib.Omega.{arith}
 use borrow.Author.Needs.{needs}
-use Rattle.links.specs.Tests.{all}
-use Rattle.links.proofs.Tests.{all-none, all-and, all-end}
+use Rattle.hull_links.specs.Tests.{all}
+use Rattle.hull_links.proofs.Tests.{all-none, all-and, all-end}
 use Rattle.hull.specs.Rule8.{smallAt}
 use Rattle.hull.specs.Passes.{smallFrom}
 use Rattle.hull.proofs.rule8.numbers_small.Statement.{statement}

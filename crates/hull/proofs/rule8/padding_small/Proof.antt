@@ -1,15 +1,12 @@
 -- `padding_small`: each call answers its own definition, and together they are this one.
 use borrow.Author.Needs.{needs}
 use Rattle.hull.specs.Passes.{paddingSmall}
-use Rattle.measures.proofs.Joined.{and3}
+use Rattle.hull_limits.proofs.Joined.{and3}
 use Rattle.hull.proofs.rule8.padding_small.Statement.{statement}
 use Rattle.hull.proofs.rule8.padding_small.Tie as tie
 
-add-p : tie.Need-add-p
-add-p c = search needs
-
-mul-p : tie.Need-mul-p
-mul-p c = search needs
+padded-requires : tie.Need-padded-requires
+padded-requires c κs = search needs
 
 add-numbers-small : tie.Need-add-numbers-small
 add-numbers-small c = search needs
@@ -49,14 +46,15 @@ numbers-small-requires-3 c κs = search needs
 
 returns : tie.Need-returns
 unfolding paddingSmall
-returns c = and3 (c .before .before .numbers-small .ensures) (c .before .numbers-small2 .ensures) (c .numbers-small3 .ensures)
+returns c =
+    rw (← c .before .before .before .padded .ensures)
+    (and3 (c .before .before .numbers-small .ensures) (c .before .numbers-small2 .ensures) (c .numbers-small3 .ensures))
 
 pub padding-small-spec : {M : Type 1} → statement M
 padding-small-spec =
     tie.close
     (tie.spec
-    add-p
-    mul-p
+    padded-requires
     add-numbers-small
     sub-numbers-small
     numbers-small-requires

@@ -3,9 +3,9 @@ use mathlib.Core.Path.{_≡_, sym, ap₂, _∙_}
 use Prim.Native.Nat.{_-_, _≤_}
 use native.Mathlib.Omega.{arith}
 use borrow.Author.Needs.{needs}
-use Rattle.links.specs.Tests.{all}
-use Rattle.links.proofs.Tests.{all-none, all-and, all-end}
-use Rattle.measures.specs.Measures.{inBox}
+use Rattle.hull_links.specs.Tests.{all}
+use Rattle.hull_links.proofs.Tests.{all-none, all-and, all-end}
+use Rattle.hull_limits.specs.Measures.{inBox}
 use Rattle.hull.specs.Rule8.{vertexInBox}
 use Rattle.hull.proofs.rule8.vertices_in_box.Statement.{statement}
 use Rattle.hull.proofs.rule8.vertices_in_box.Tie as tie
@@ -36,7 +36,11 @@ loop-less c = search needs
 
 loop-again : tie.Need-loop-again Inv-loop μ-loop
 unfolding vertexInBox
-loop-again c = (omega arith, all-and _ _ _ _ (c .before .before .before .loop .inv .1) (c .in-box .ensures ∙ ap₂ inBox (c .before .before .before .before .box-of .ensures) (c .before .vertex-at .ensures)))
+loop-again c = (
+  omega arith,
+  all-and _ _ _ _ (c .before .before .before .loop .inv .1) (c .in-box .ensures
+      ∙ ap₂ inBox (c .before .before .before .before .box-of .ensures) (c .before .vertex-at .ensures)),
+)
 
 returns : tie.Need-returns Inv-loop μ-loop
 returns c = all-end _ _ _ _ (omega arith) (omega arith) (c .before .loop .inv .1)

@@ -4,7 +4,7 @@ use mathlib.Core.Path.{ap}
 use native.Mathlib.Omega.{arith}
 use Rattle.manifold.specs.declared.Contact.{Contact}
 use Rattle.manifold.specs.Polygons.{cornersOf}
-use Rattle.points.specs.Points.{contactOf}
+use Rattle.reduce_points.specs.Points.{contactOf}
 use Rattle.reduce.specs.Reduce.{pointsOf}
 use Rattle.probes.proofs.Rounds.{Summed, none-summed, one-more, all-summed, four-most}
 use borrow.Author.Needs.{needs}
@@ -12,7 +12,8 @@ use Rattle.probes.proofs.cuts.probe_reduce_rounds.Statement.{statement}
 use Rattle.probes.proofs.cuts.probe_reduce_rounds.Tie as tie
 
 abbrev Inv-loop : tie.InvT-loop
-Inv-loop points normal direction rounds total₀ i₀ total i = (i ≤ rounds) × Summed (contactOf normal (pointsOf direction normal (cornersOf points)) .count) total i
+Inv-loop points normal direction rounds total₀ i₀ total i =
+    (i ≤ rounds) × Summed (contactOf normal (pointsOf direction normal (cornersOf points)) .count) total i
 
 abbrev μ-loop : tie.MeasureT-loop
 μ-loop points normal direction rounds total₀ i₀ total i = rounds - i

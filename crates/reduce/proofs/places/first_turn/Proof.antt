@@ -4,7 +4,7 @@ use mathlib.Core.Bool.{true, false}
 use lib.Ieee.{lt}
 use borrow.Author.Needs.{needs}
 use Rattle.manifold.specs.Limits.{speculative}
-use Rattle.scores.specs.Scores.{firstTurn}
+use Rattle.reduce_scores.specs.Scores.{firstTurn}
 use Rattle.reduce.proofs.places.first_turn.Statement.{statement}
 use Rattle.reduce.proofs.places.first_turn.Tie as tie
 

@@ -15,7 +15,12 @@ mul-sv-requires c κs = search needs
 
 returns : tie.Need-returns
 unfolding normalizeOf
-returns c = simp (simp (c .before .before .before .length-squared .ensures) at (c .before .before .if1 .taken), c .mul-sv .ensures, c .before .root .ensures .1, c .before .before .before .length-squared .ensures)
+returns c = simp (
+  simp (c .before .before .before .length-squared .ensures) at (c .before .before .if1 .taken),
+  c .mul-sv .ensures,
+  c .before .root .ensures .1,
+  c .before .before .before .length-squared .ensures,
+)
 
 returns-2 : tie.Need-returns-2
 unfolding normalizeOf

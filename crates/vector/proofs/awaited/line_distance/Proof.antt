@@ -32,7 +32,19 @@ returns : tie.Need-returns
 unfolding lineDistanceOf
 returns c =
     let w = c .before .before in
-    simp (simp (w .before .before .before .dot4 .ensures, w .before .before .before .before .dot3 .ensures, w .before .before .before .before .before .dot2 .ensures, w .before .before .before .before .before .before .dot .ensures) at (c .before .if1 .taken), c .mul-add .ensures, w .before .dot5 .ensures, w .before .before .sub .ensures, w .before .before .before .before .before .before .dot .ensures)
+    simp (
+      simp (
+        w .before .before .before .dot4 .ensures,
+        w .before .before .before .before .dot3 .ensures,
+        w .before .before .before .before .before .dot2 .ensures,
+        w .before .before .before .before .before .before .dot .ensures,
+      ) at
+          (c .before .if1 .taken),
+      c .mul-add .ensures,
+      w .before .dot5 .ensures,
+      w .before .before .sub .ensures,
+      w .before .before .before .before .before .before .dot .ensures,
+    )
 
 mul-add-requires-2 : tie.Need-mul-add-requires-2
 mul-add-requires-2 c κs = search needs
@@ -44,7 +56,24 @@ returns-2 : tie.Need-returns-2
 unfolding lineDistanceOf
 returns-2 c =
     let w = c .before .before .before in
-    simp (simp (w .before .before .before .dot4 .ensures, w .before .before .before .before .dot3 .ensures, w .before .before .before .before .before .dot2 .ensures, w .before .before .before .before .before .before .dot .ensures) at (c .before .before .if1 .left), c .mul-add3 .ensures, c .before .mul-add2 .ensures, w .dot6 .ensures, w .before .dot5 .ensures, w .before .before .sub .ensures, w .before .before .before .dot4 .ensures, w .before .before .before .before .dot3 .ensures, w .before .before .before .before .before .dot2 .ensures, w .before .before .before .before .before .before .dot .ensures)
+    simp (
+      simp (
+        w .before .before .before .dot4 .ensures,
+        w .before .before .before .before .dot3 .ensures,
+        w .before .before .before .before .before .dot2 .ensures,
+        w .before .before .before .before .before .before .dot .ensures,
+      ) at
+          (c .before .before .if1 .left),
+      c .mul-add3 .ensures,
+      c .before .mul-add2 .ensures,
+      w .dot6 .ensures,
+      w .before .dot5 .ensures,
+      w .before .before .sub .ensures,
+      w .before .before .before .dot4 .ensures,
+      w .before .before .before .before .dot3 .ensures,
+      w .before .before .before .before .before .dot2 .ensures,
+      w .before .before .before .before .before .before .dot .ensures,
+    )
 
 pub line-distance-spec : {M : Type 1} → statement M
 line-distance-spec =

@@ -65,8 +65,11 @@ loop-less c = search needs
 loop-again : tie.Need-loop-again Inv-loop μ-loop
 loop-again c =
     let a = c .before .before .before .before .before .before .before .before .before .before .before .before .before .before .args in
-    let l = c .before .before .before .before .before .before .loop in
-    (search needs, turn (a .xs .now) (a .ys .now) (a .zs .now) (a .d) (l .i) (l .best) (c .farther .result) (c .before .dot2 .result) (l .inv .1) (c .before .dot2 .ensures) (c .farther .ensures))
+    let l = c .before .before .before .before .before .before .loop in (
+      search needs,
+      turn (a .xs .now) (a .ys .now) (a .zs .now) (a .d) (l .i) (l .best) (c .farther .result) (c .before .dot2 .result)
+          (l .inv .1) (c .before .dot2 .ensures) (c .farther .ensures),
+    )
 
 returns : tie.Need-returns Inv-loop μ-loop
 unfolding supportVertexOf

@@ -1,0 +1,35 @@
+-- The best axis so far: "strictly greater for a new best", and the search "stops at the first new best strictly above speculative" where an early
+-- stop is asked for. Definitions only.
+use mathlib.Core.Bool.{Bool, true, false, cond}
+use Prim.Native.Nat.{ℕ, zero, suc}
+use lib.Ieee as Ieee
+use lib.Ieee.{Float}
+use Rattle.vector.specs.declared.Vec3.{Vec3}
+use Rattle.vector.specs.Rounded.{float, _⊘_}
+use Rattle.vector.specs.Arithmetic.{zeroVec}
+use Rattle.manifold.specs.Limits.{speculative}
+use Rattle.axis_best.specs.declared.Lead.{Lead}
+
+-- minus infinity, as -1 / 0
+abbrev pub lowest : Float
+lowest = Ieee.neg (float 0x3f80_0000) ⊘ float 0
+
+-- nothing found
+abbrev pub noneOf : Lead
+noneOf = record { found = false; apart = false; normal = zeroVec; separation = lowest; «index_a» = 0; «index_b» = 0 }
+
+-- an early stop is asked for, and the separation is strictly above speculative
+unfoldable pub stopsOf : Bool → Float → Bool
+stopsOf early separation = cond early (Ieee.lt speculative separation) false
+
+-- a new best is strictly greater
+unfoldable pub betterOf : Bool → Vec3 → Float → ℕ → ℕ → Lead → Lead
+betterOf early normal separation a b lead =
+    cond (Ieee.lt (lead .separation) separation)
+    (record { found = true; apart = stopsOf early separation; normal = normal; separation = separation; «index_a» = a; «index_b» = b })
+    lead
+
+-- what the steps 0 to n - 1 make of a lead; a search that has stopped stays as it is
+unfoldable pub leadAfter : (ℕ → Lead → Lead) → Lead → ℕ → Lead
+leadAfter step lead zero = lead
+leadAfter step lead (suc n) = cond (leadAfter step lead n .apart) (leadAfter step lead n) (step n (leadAfter step lead n))

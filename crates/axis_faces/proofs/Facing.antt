@@ -1,0 +1,82 @@
+-- The loop over faces: each face gives the support search what it asks for, its parts together are the face, and the turns make the whole search.
+-- Assumes nothing.
+use mathlib.Core.Path.{_≡_, sym, ap, _∙_, subst}
+use mathlib.Core.Bool.{Bool, true, false, cond}
+use mathlib.Core.List.{List}
+use Prim.Native.Nat.{ℕ, _+_, _<_, _≤_}
+use lib.Ieee.{Float}
+use Rattle.bounds.specs.Bound.{Below}
+use Rattle.vector.specs.declared.Vec3.{Vec3}
+use Rattle.vector.specs.declared.Plane.{Plane}
+use Rattle.vector.specs.declared.Aabb.{Aabb}
+use Rattle.vector.specs.Bounded.{VecBelow}
+use Rattle.vector.specs.Shape.{centerOf, extentsOf}
+use Rattle.vector.proofs.Bounded.{center-below, extents-below}
+use Rattle.rotation.specs.Rotation.{Rows}
+use Rattle.hull_links.specs.declared.HullSize.{HullSize}
+use Rattle.hull.specs.Numbers.{boxOf, vertexAt, planeAt}
+use Rattle.axis_best.specs.declared.Lead.{Lead}
+use Rattle.axis_best.specs.Leads.{noneOf, leadAfter}
+use Rattle.axis_best.proofs.Searches.{begins, goes-on, stays}
+use Rattle.axis_faces.specs.declared.Face.{Face}
+use Rattle.axis_faces.specs.Support.{supportOf}
+use Rattle.axis_faces.specs.Faces.{biasOf, directionOf, exactOf, faceSeparationOf, farthestVertexOf, faceOf, faceTakenOf, faceSearchWith}
+use Rattle.axis_faces.specs.Ready.{SupportReady, Facing, FacesReady}
+use Rattle.axis_faces.proofs.Bounded.{direction-below, bias-below}
+
+module _ {turn : Rows} {position : Vec3} {s : HullSize} {n : List Float} {t : HullSize} {m : List Float} where
+  pub direction-near : Facing turn position s n t m → (f : ℕ) → f < s .faces → VecBelow 8 (directionOf turn (planeAt s n f .normal))
+  direction-near F f h = direction-below (F .turn-below) (F .normals-below f h)
+
+  -- the middle and the half-sizes of a box whose corners are coordinates
+  pub faces-ready : Facing turn position s n t m → (space : Aabb) (center extents : Vec3) → space ≡ boxOf m → center ≡ centerOf space
+      → extents ≡ extentsOf space → FacesReady turn position s n t m center extents
+  faces-ready F space center extents e p q =
+      record {
+        facing = F;
+        center-below = subst (VecBelow 23) (sym (p ∙ ap centerOf e)) (center-below (F .lower-below) (F .upper-below));
+        extents-below = subst (VecBelow 23) (sym (q ∙ ap extentsOf e)) (extents-below (F .lower-below) (F .upper-below));
+      }
+
+  -- what the code hands to the support search for face f
+  pub support-ready : {center extents : Vec3} → FacesReady turn position s n t m center extents → (f : ℕ) → f < s .faces
+      → (plane : Plane) (d : Vec3) (bias : Float) → plane ≡ planeAt s n f → d ≡ directionOf turn (plane .normal) → bias ≡ biasOf d center extents
+      → SupportReady bias d t m
+  support-ready R f h plane d bias p q e =
+      let near : VecBelow 8 d = subst (VecBelow 8) (sym (q ∙ ap (λ (x : Plane). directionOf turn (x .normal)) p)) (direction-near (R .facing) f h) in
+      record {
+        fit = R .facing .other-fit;
+        bias-below = subst (Below 35) (sym e) (bias-below near (R .center-below) (R .extents-below));
+        direction-below = near;
+        vertices-below = R .facing .vertices-below;
+      }
+
+module _ (own : Bool) (turn : Rows) (position : Vec3) (s : HullSize) (n : List Float) (t : HullSize) (m : List Float) (center extents : Vec3) where
+  pub face-made : (f : ℕ) (plane : Plane) (d : Vec3) (bias : Float) (vertex : ℕ) (at : Vec3) (support : Float) (along : Vec3) (apart : Float)
+      → plane ≡ planeAt s n f → d ≡ directionOf turn (plane .normal) → bias ≡ biasOf d center extents → vertex ≡ supportOf bias d t m
+      → at ≡ vertexAt t m vertex → support ≡ exactOf d at
+      → along ≡ cond own (plane .normal) d → apart ≡ faceSeparationOf along position (plane .offset) support
+      → _≡_ {A = Face} (record { normal = along; separation = apart; vertex = vertex }) (faceOf own turn position s n t m center extents f)
+  unfolding faceOf farthestVertexOf
+  face-made f plane d bias vertex at support along apart hp hd hb hw hv he ha hs = rw (hs, he, hv, hw, hb, ha, hd, hp)
+
+  -- the lead after the faces below f
+  abbrev pub leadBefore : Bool → ℕ → Lead
+  leadBefore early = leadAfter (λ f. faceTakenOf early own (faceOf own turn position s n t m center extents f) f) noneOf
+
+  pub no-face : (early : Bool) → noneOf ≡ leadBefore early 0
+  no-face early = begins _ noneOf
+
+  pub one-face : (early : Bool) (f : ℕ) (lead next : Lead) (face : Face) → lead ≡ leadBefore early f → lead .apart ≡ false
+      → face ≡ faceOf own turn position s n t m center extents f → next ≡ faceTakenOf early own face f lead → next ≡ leadBefore early (f + 1)
+  one-face early f lead next face p q e h = goes-on _ noneOf f lead next p q (h ∙ ap (λ (x : Face). faceTakenOf early own x f lead) e)
+
+  pub stopped-face : (early : Bool) (f : ℕ) (lead : Lead) → f ≤ s .faces → lead ≡ leadBefore early f → lead .apart ≡ true
+      → lead ≡ faceSearchWith early own turn position s n t m center extents
+  unfolding faceSearchWith
+  stopped-face early f lead h p q = stays _ noneOf (s .faces) f lead h p q
+
+  pub all-faces : (early : Bool) (f : ℕ) (lead : Lead) → f ≡ s .faces → lead ≡ leadBefore early f
+      → lead ≡ faceSearchWith early own turn position s n t m center extents
+  unfolding faceSearchWith
+  all-faces early f lead h p = p ∙ ap (leadBefore early) h

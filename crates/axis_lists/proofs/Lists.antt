@@ -1,0 +1,65 @@
+-- Three fills make a list of vectors, and one fill makes a row of dots, whatever the vectors are called. Assumes nothing.
+use Prim.Native.Nat.{ℕ, _+_, _*_, _≤_}
+use mathlib.Core.List.{List}
+use mathlib.Core.Path.{_≡_, sym, ap, _∙_, subst}
+use native.Mathlib.Omega.{arith}
+use lib.ListN.{length, getD}
+use lib.Ieee.{Float, nan}
+use Rattle.vector.specs.declared.Vec3.{Vec3}
+use Rattle.hull_links.specs.declared.HullSize.{HullSize}
+use Rattle.hull_links.specs.Links.{padded}
+use Rattle.hull.specs.Numbers.{vertexAt}
+use Rattle.axis_edges.specs.Edges.{dotRight, differenceOf, edgeOfA}
+use Rattle.axis_lists.specs.Lists.{vectorIn, Three, Row}
+use Rattle.axis_lists.specs.Fills.{Filled, dotAt, differenceAt}
+
+same-vector : {x y z : Float} {v : Vec3} → x ≡ v .x → y ≡ v .y → z ≡ v .z → _≡_ {A = Vec3} (record { x = x; y = y; z = z }) v
+same-vector p q r = rw (p, q, r)
+
+pub three : (g : ℕ → Vec3) (n : ℕ) (l₀ l₁ l₂ l₃ : List Float) → length l₀ ≡ 384 → n ≤ 128
+    → Filled (λ k. g k .x) 0 n l₀ l₁ → Filled (λ k. g k .y) 128 n l₁ l₂ → Filled (λ k. g k .z) 256 n l₂ l₃ → Three g n l₃
+unfolding vectorIn
+three g n l₀ l₁ l₂ l₃ e h a b c =
+    record {
+      long = c .long ∙ b .long ∙ a .long ∙ e;
+      each = λ k q. same-vector {v = g k}
+          (c .kept k (omega (arith, q, h)) ∙ b .kept k (omega (arith, q, h)) ∙ ap (λ (m : ℕ). getD l₁ m nan) (zero-plus k) ∙ a .made k q)
+          (c .kept (128 + k) (omega (arith, q, h)) ∙ b .made k q)
+          (c .made k q);
+    }
+  where
+    zero-plus : (k : ℕ) → k ≡ 0 + k
+    zero-plus k = omega arith
+
+-- the directions of A's edges, of the differences in the three lists of coordinates
+pub directions-made : (s : HullSize) (xs : List Float) (l : List ℕ) (n y z : ℕ) (l₀ l₁ l₂ l₃ : List Float) → length l₀ ≡ 384 → n ≤ 128
+    → y ≡ 6 + padded s
+    → z ≡ 6 + 2 * padded s
+    → Filled (differenceAt xs l s 6) 0 n l₀ l₁
+    → Filled (differenceAt xs l s y) 128 n l₁ l₂
+    → Filled (differenceAt xs l s z) 256 n l₂ l₃
+    → Three (λ k. edgeOfA s xs l k .direction) n l₃
+unfolding edgeOfA differenceOf vertexAt
+directions-made s xs l n y z l₀ l₁ l₂ l₃ e h p q a b c =
+    three (λ k. edgeOfA s xs l k .direction) n l₀ l₁ l₂ l₃ e h a (subst (λ (from : ℕ). Filled (differenceAt xs l s from) 128 n l₁ l₂) p b)
+    (subst (λ (from : ℕ). Filled (differenceAt xs l s from) 256 n l₂ l₃) q c)
+
+-- a row of dots along the vectors of a list
+pub row-made : {n at : ℕ} {was is : List Float} (v : Vec3) (lists : List Float) → at + n ≤ length was → Filled (dotAt v lists) at n was is
+    → Row v (vectorIn lists) n at is
+unfolding vectorIn dotRight
+row-made {n} {at} {was} {is} v lists h f = record { room = subst (λ (m : ℕ). at + n ≤ m) (sym (f .long)) h; each = λ k q. f .made k q }
+
+-- a row that stands before the place where a fill begins
+pub row-kept : {g : ℕ → Vec3} {n m p at : ℕ} {was is : List Float} (v : Vec3) (w : ℕ → Float) → Row v g n p was → p + n ≤ at → Filled w at m was is
+    → Row v g n p is
+row-kept {g} {n} {m} {p} {at} {was} {is} v w r h f =
+    record {
+      room = subst (λ (x : ℕ). p + n ≤ x) (sym (f .long)) (r .room);
+      each = λ k q. f .kept (p + k) (omega (arith, q, h)) ∙ r .each k q;
+    }
+
+-- the vectors of a list under another name
+pub row-same : {v : Vec3} {n at : ℕ} {table : List Float} (g : ℕ → Vec3) (lists : List Float) → Three g n lists → Row v (vectorIn lists) n at table
+    → Row v g n at table
+row-same {v} g lists e r = record { room = r .room; each = λ k q. r .each k q ∙ ap (dotRight v) (e .each k q) }

@@ -1,2 +1,0 @@
-pub mod Builds
-pub mod Carried

@@ -1,0 +1,112 @@
+-- `cached_face_a`: the vertex that is found is the deepest, and the test picks the case of the definition.
+use mathlib.Core.Path.{_≡_}
+use native.Mathlib.Omega.{arith}
+use lib.Ieee as Ieee
+use denote.Ref.{now}
+use Rattle.rotation.specs.Rotation.{invRotateOf, transformPointOf}
+use Rattle.manifold.specs.Limits.{speculative}
+use Rattle.collide_cached.specs.Again.{deepestBelowA, separationFromA}
+use Rattle.collide_cached.proofs.Cases.{at-support, support-byte, is-deepest, off-face, a-far, a-close}
+use borrow.Author.Needs.{needs}
+use Rattle.collide_cached.proofs.cached_face_a.Statement.{statement}
+use Rattle.collide_cached.proofs.cached_face_a.Tie as tie
+
+-- the vertex that is found, and the test, are the definition's
+vertex-is : (c : tie.After-support-vertex) → let g = c .before .before .before .before .before .before .before .before .before .args in
+    c .support-vertex .result ≡ deepestBelowA (g .size-a) (now (g .numbers-a)) (g .size-b) (now (g .numbers-b)) (g .transform) (g .cache .«index_a»)
+unfolding deepestBelowA
+vertex-is c = let g = c .before .before .before .before .before .before .before .before .before .args in
+    is-deepest (g .size-a) (now (g .numbers-a)) (g .size-b) (now (g .numbers-b)) (invRotateOf (g .transform .q)) (transformPointOf (g .transform))
+    (g .cache .«index_a»)
+    _ (c .before .before .before .plane-at .ensures) _ (c .before .before .inv-rotate-vector .ensures) _ (c .before .neg .ensures) _
+    (c .support-vertex .ensures)
+
+test-is : (c : tie.After-speculative-distance) → let g =
+    c .before .before .before .before .before .before .before .before .before .before .before .before .before .args in
+    Ieee.le (c .speculative-distance .result) (c .before .plane-separation .result) ≡ Ieee.le speculative
+    (separationFromA (g .size-a) (now (g .numbers-a)) (g .size-b) (now (g .numbers-b)) (g .transform) (g .cache .«index_a»))
+unfolding separationFromA deepestBelowA
+test-is c = let z = c .before .before .before .before in
+    let g = z .before .before .before .before .before .before .before .before .before .args in
+    off-face (g .size-a) (now (g .numbers-a)) (g .size-b) (now (g .numbers-b)) (invRotateOf (g .transform .q)) (transformPointOf (g .transform))
+    (g .cache .«index_a»)
+    _ (z .before .before .before .plane-at .ensures) _ (z .before .before .inv-rotate-vector .ensures) _ (z .before .neg .ensures) _
+    (z .support-vertex .ensures)
+    _ (c .before .before .before .vertex-at .ensures) _ (c .before .before .transform-point .ensures) _ (c .before .plane-separation .ensures)
+    _ (c .speculative-distance .ensures)
+
+cast-plane-at : tie.Need-cast-plane-at
+cast-plane-at c = search needs
+
+plane-at-requires : tie.Need-plane-at-requires
+plane-at-requires c κs = search needs
+
+inv-rotate-vector-requires : tie.Need-inv-rotate-vector-requires
+inv-rotate-vector-requires c κs = search needs
+
+neg-requires : tie.Need-neg-requires
+neg-requires c κs = search needs
+
+support-vertex-requires : tie.Need-support-vertex-requires
+support-vertex-requires c κs = search needs
+
+vertex-at-requires : tie.Need-vertex-at-requires
+vertex-at-requires c κs = at-support _ _ _ (c .before .before .before .before .before .before .before .before .before .pre .1) _ _
+    (c .support-vertex .ensures)
+
+transform-point-requires : tie.Need-transform-point-requires
+transform-point-requires c κs = search needs
+
+plane-separation-requires : tie.Need-plane-separation-requires
+plane-separation-requires c κs = search needs
+
+speculative-distance-requires : tie.Need-speculative-distance-requires
+speculative-distance-requires c κs = search needs
+
+empty-contact-requires : tie.Need-empty-contact-requires
+empty-contact-requires c κs = search needs
+
+hit-with-requires : tie.Need-hit-with-requires
+hit-with-requires c κs = search needs
+
+returns : tie.Need-returns
+returns c = a-far _ _ _ _ _ _ _ _ _ (test-is (c .before .before .before)) (c .before .before .if1 .taken) _ (c .before .empty-contact .ensures)
+    _ (c .hit-with .ensures)
+
+cast-build-face-a-contact : tie.Need-cast-build-face-a-contact
+cast-build-face-a-contact c = let b =
+    support-byte _ _ _ (c .before .before .before .before .before .before .before .before .before .before .before .before .before .before .pre .1)
+    _ _ (c .before .before .before .before .before .support-vertex .ensures) in
+    omega (arith, b)
+
+build-face-a-contact-requires : tie.Need-build-face-a-contact-requires
+build-face-a-contact-requires c κs = search needs
+
+served-requires : tie.Need-served-requires
+served-requires c κs = search needs
+
+returns-2 : tie.Need-returns-2
+returns-2 c = a-close _ _ _ _ _ _ _ _ _ (test-is (c .before .before .before)) (c .before .before .if1 .left) _
+    (vertex-is (c .before .before .before .before .before .before .before))
+    _ (c .before .build-face-a-contact .ensures) _ (c .served .ensures)
+
+pub cached-face-a-spec : {M : Type 1} → statement M
+cached-face-a-spec =
+    tie.close
+    (tie.spec
+    cast-plane-at
+    plane-at-requires
+    inv-rotate-vector-requires
+    neg-requires
+    support-vertex-requires
+    vertex-at-requires
+    transform-point-requires
+    plane-separation-requires
+    speculative-distance-requires
+    empty-contact-requires
+    hit-with-requires
+    returns
+    cast-build-face-a-contact
+    build-face-a-contact-requires
+    served-requires
+    returns-2)

@@ -1,0 +1,2 @@
+pub mod Ridges
+pub mod Again

@@ -1,0 +1,152 @@
+// What a contact that is built leaves, as one record; and what becomes of it: the answer of a call, or a cached axis that serves again.
+// What each says is in specs/.
+ghost use mathlib.Core.Path.{_≡_};
+ghost use Rattle.collide_outcome.specs.Builds.{touchedOf, missed, refusedAt};
+ghost use Rattle.collide_outcome.specs.Answers.{accepted, refusedOf, answerOf};
+ghost use Rattle.collide_outcome.specs.Served.{hitWith, noHit, nearOf, servedOf};
+use manifold::Answer;
+use manifold::Contact;
+use manifold::Outcome;
+use manifold::SatCache;
+use manifold::bits::float_of;
+use manifold::limits::linear_slop;
+use manifold::records::empty_cache;
+use manifold::records::empty_contact;
+use vector::scalar::abs_float;
+
+// What was built: a status of 0 or the number of a refusal, whether the hulls touch, the contact, and the next cache.
+// Where they do not touch the contact is empty and the cache cleared.
+pub struct Built {
+    pub status: u8,
+    pub touching: bool,
+    pub contact: Contact,
+    pub cache: SatCache,
+}
+
+// They touch: the contact, and the axis that made it.
+pub fn touched(contact: Contact, separation: f32, kind: u8, index_a: u8, index_b: u8) -> Built
+    ensures { λ r. ⌜ r ≡ touchedOf contact separation kind «index_a» «index_b» ⌝ }
+{
+    Built {
+        status: 0,
+        touching: true,
+        contact,
+        cache: SatCache {
+            separation: manifold::bits::bits_of(separation),
+            kind,
+            index_a,
+            index_b,
+            hit: 0,
+        },
+    }
+}
+
+// They do not touch.
+pub fn missed() -> Built
+    ensures { λ r. ⌜ r ≡ missed ⌝ }
+{
+    refused_at(0)
+}
+
+// A refusal that the work met, or 0 for none.
+pub fn refused_at(status: u8) -> Built
+    ensures { λ r. ⌜ r ≡ refusedAt status ⌝ }
+{
+    let contact = empty_contact();
+    let cache = empty_cache();
+    Built {
+        status,
+        touching: false,
+        contact,
+        cache,
+    }
+}
+
+pub fn accepted_with(contact: Contact, cache: SatCache) -> Answer
+    ensures { λ r. ⌜ r ≡ accepted contact cache ⌝ }
+{
+    Answer {
+        outcome: Outcome { status: 0, contact },
+        cache,
+    }
+}
+
+// An empty contact, and the cache as it was lent.
+pub fn refused(status: u8, cache: SatCache) -> Answer
+    ensures { λ r. ⌜ r ≡ refusedOf status cache ⌝ }
+{
+    let empty = empty_contact();
+    Answer {
+        outcome: Outcome {
+            status,
+            contact: empty,
+        },
+        cache,
+    }
+}
+
+// What was built, or the refusal that the work met.
+pub fn answer_of(cache: SatCache, built: Built) -> Answer
+    ensures { λ r. ⌜ r ≡ answerOf cache built ⌝ }
+{
+    if built.status != 0 {
+        return refused(built.status, cache);
+    }
+    let contact = built.contact;
+    let next = built.cache;
+    accepted_with(contact, next)
+}
+
+// A hit, with the contact that comes of it; else the full search has to be made, or the work met a refusal, whose number is the status.
+pub struct Cached {
+    pub status: u8,
+    pub hit: bool,
+    pub contact: Contact,
+}
+
+pub fn hit_with(contact: Contact) -> Cached
+    ensures { λ r. ⌜ r ≡ hitWith contact ⌝ }
+{
+    Cached {
+        status: 0,
+        hit: true,
+        contact,
+    }
+}
+
+pub fn no_hit(status: u8) -> Cached
+    ensures { λ r. ⌜ r ≡ noHit status ⌝ }
+{
+    let none = empty_contact();
+    Cached {
+        status,
+        hit: false,
+        contact: none,
+    }
+}
+
+// Whether two separations differ by less than slop.
+fn near(cache: SatCache, fresh: SatCache) -> bool
+    ensures { λ r. ⌜ r ≡ nearOf cache fresh ⌝ }
+{
+    let difference = float_of(cache.separation) - float_of(fresh.separation);
+    abs_float(difference) < linear_slop()
+}
+
+// Whether what was built anew may stand for the cached axis.
+pub fn served(cache: SatCache, built: Built) -> Cached
+    ensures { λ r. ⌜ r ≡ servedOf cache built ⌝ }
+{
+    if built.status != 0 {
+        return no_hit(built.status);
+    }
+    if !built.touching {
+        return no_hit(0);
+    }
+    let fresh = built.cache;
+    if near(cache, fresh) {
+        let made = built.contact;
+        return hit_with(made);
+    }
+    no_hit(0)
+}

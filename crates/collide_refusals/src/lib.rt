@@ -1,0 +1,66 @@
+// The refusals that are given before any work, in document 01's order: 1 and 2 of the hulls, 3 of the transform, 4 of what the cache names. What each
+// says is in specs/Refusals.antt.
+ghost use mathlib.Core.Path.{_≡_};
+ghost use Rattle.collide_refusals.specs.Refusals.{firstHalf, cacheRight, refusalOf};
+use hull::first_broken_rule;
+use hull_limits::transform::transform_accepted;
+use hull_links::HullSize;
+use manifold::SatCache;
+use vector::Transform;
+
+// Whether a number is that of the first of two half-edges: even, and below H.
+fn first_half(size: HullSize, e: u8) -> bool
+    ensures { λ r. ⌜ r ≡ firstHalf size e ⌝ }
+{
+    if e % 2 != 0 {
+        return false;
+    }
+    (e as usize) < size.half_edges
+}
+
+// Whether what the cache names is there: refusal 4 where it is not.
+fn cache_right(size_a: HullSize, size_b: HullSize, cache: SatCache) -> bool
+    ensures { λ r. ⌜ r ≡ cacheRight «size_a» «size_b» cache ⌝ }
+{
+    let kind = cache.kind;
+    match kind {
+        2 => (cache.index_a as usize) < size_a.faces,
+        3 => (cache.index_b as usize) < size_b.faces,
+        4 => {
+            if first_half(size_a, cache.index_a) {
+                return first_half(size_b, cache.index_b);
+            }
+            false
+        }
+        0..=1 | 5..=255 => true,
+    }
+}
+
+// The first refusal that is given before any work, 0 if none.
+pub fn first_refusal(
+    numbers_a: &[f32],
+    links_a: &[u8],
+    size_a: HullSize,
+    numbers_b: &[f32],
+    links_b: &[u8],
+    size_b: HullSize,
+    transform: Transform,
+    cache: SatCache,
+) -> u8
+    ensures { λ r. ⌜ r ≡ refusalOf «size_a» (now («numbers_a» .entry)) (now («links_a» .entry)) «size_b» (now («numbers_b» .entry))
+        (now («links_b» .entry)) transform cache ⌝ }
+{
+    if first_broken_rule(numbers_a, links_a, size_a) != 0 {
+        return 1;
+    }
+    if first_broken_rule(numbers_b, links_b, size_b) != 0 {
+        return 2;
+    }
+    if !transform_accepted(transform) {
+        return 3;
+    }
+    if !cache_right(size_a, size_b, cache) {
+        return 4;
+    }
+    0
+}

@@ -1,0 +1,76 @@
+-- The rules are not empty: hulls that a reader knows break none of them, and for each rule a hull that breaks it is told by its number. Assumes nothing.
+use mathlib.Core.Path.{_≡_, refl}
+use mathlib.Core.List.{List, [], _∷_, map, _++_}
+use Prim.Native.Nat.{ℕ}
+use lib.ListN.{set}
+use lib.Ieee.{binary32, le, neg, ofBits, add, sub, mul}
+use Rattle.hull_links.specs.Tests.{_&_, _or_, implies, all, firstBroken}
+use Rattle.hull_links.specs.Walks.{has, firsts, until, ring}
+use Rattle.hull_links.specs.Rules.{h1, vertexInRange, edgeInRange, faceInRange, h2, twinsAt, h3, linkedAt, h4, newNext, h5, ringHolds, ringRight, h6}
+use Rattle.hull_links.specs.Rules.{fanHolds, fanRight, h7}
+use Rattle.hull.specs.Numbers.{boxOf, vertexAt, planeAt}
+use Rattle.hull_limits.specs.Measures.{inside, small, moderate, nearOne, apart, inBox, planeRight, endsApart}
+use Rattle.hull.specs.Rule8.{finiteAt, smallAt, vertexInBox, planeRightAt, edgeLong, h8, brokenRule}
+use Rattle.computed.proofs.Shapes.{Sample, tetrahedron, cube, log, pyramid}
+
+abbrev answer : Sample → ℕ
+answer h = brokenRule (h .size) (map (ofBits binary32) (h .bits)) (h .links)
+
+-- ---- the tetrahedron with something changed
+abbrev withVertices : ℕ → Sample
+withVertices v = record { size = record { vertices = v; «half_edges» = 12; faces = 4 }; bits = tetrahedron .bits; links = tetrahedron .links }
+
+abbrev withLinks : List ℕ → Sample
+withLinks l = record { size = tetrahedron .size; bits = tetrahedron .bits; links = l }
+
+abbrev withLink : ℕ → ℕ → Sample
+withLink place to = withLinks (set (tetrahedron .links) place to)
+
+abbrev withNumbers : List ℕ → Sample
+withNumbers n = record { size = tetrahedron .size; bits = n; links = tetrahedron .links }
+
+abbrev withNumber : ℕ → ℕ → Sample
+withNumber place to = withNumbers (set (tetrahedron .bits) place to)
+
+pub record Row : Type 0 where
+  pub hull : Sample
+  pub rule : ℕ
+
+abbrev row : Sample → ℕ → Row
+row h r = record { hull = h; rule = r }
+
+abbrev table : List Row
+table =
+    row tetrahedron 0
+    ∷ row cube 0
+    ∷ row log 0
+    ∷ row pyramid 0
+    -- H1: a vertex more than the lists hold; a link too many; a number too many
+    ∷ row (withVertices 5) 1
+    ∷ row (withLinks (tetrahedron .links ++ (0 ∷ []))) 1
+    ∷ row (withNumbers (tetrahedron .bits ++ (0 ∷ []))) 1
+    -- H2: the next of half-edge 0 is 12
+    ∷ row (withLink 4 12) 2
+    -- H3: half-edge 0 is its own twin
+    ∷ row (withLink 5 0) 3
+    -- H4: half-edge 0 is its own next
+    ∷ row (withLink 4 0) 4
+    -- H5: face 1 goes by the number 0, and half-edge 8 of it leads to half-edge 0, as half-edge 4 does
+    ∷ row (withLinks (set (set (set (set (tetrahedron .links) 27 0) 31 0) 39 0) 36 0)) 5
+    -- H6: face 0 stores half-edge 5, which is of face 1
+    ∷ row (withLink 52 5) 6
+    -- H7: vertex 0 stores half-edge 1, which starts at vertex 2
+    ∷ row (withLink 0 1) 7
+    -- H8: a normal with a NaN; an offset just above 8192; a vertex just outside the box; an edge just shorter than 1/1024, and one of just that
+    ∷ row (withNumber 19 0x7fc0_0000) 8
+    ∷ row (withNumber 21 0x4600_0001) 8
+    ∷ row (withNumber 7 0x3f80_0001) 8
+    ∷ row (withNumber 7 0x3a7f_ffff) 8
+    ∷ row (withNumber 7 0x3a80_0000) 0
+    ∷ []
+
+pub answers : map (λ (r : Row). answer (r .hull)) table ≡ map (λ (r : Row). r .rule) table
+unfolding _&_ _or_ implies all firstBroken has firsts until ring h1 vertexInRange edgeInRange faceInRange h2 twinsAt h3 linkedAt h4 newNext
+    h5 ringHolds ringRight h6 fanHolds fanRight h7 boxOf vertexAt planeAt inside small moderate nearOne apart finiteAt smallAt inBox
+    vertexInBox planeRight planeRightAt endsApart edgeLong h8 brokenRule le neg ofBits add sub mul
+answers = refl

@@ -1,0 +1,10 @@
+mod Rows
+pub mod Marked
+mod Shapes
+pub mod Hulls
+pub mod LimitsHull
+pub mod LimitsSearch
+pub mod LimitsCall
+pub mod LimitsCached
+pub mod LimitsCut
+pub mod LimitsFrames

@@ -1,0 +1,55 @@
+// A contact carried from B's frame into A's. What it comes to is in specs/Carried.antt.
+ghost use mathlib.Core.Path.{_≡_};
+ghost use Rattle.contacts.specs.Carried.{carriedPoint, carriedPlace, carriedContact};
+use manifold::Contact;
+use manifold::Point;
+use manifold::pairs::flip_pair;
+use vector::Transform;
+use vector::Vec3;
+use vector::arithmetic::add;
+use vector::arithmetic::neg;
+
+// A point of B's frame in A's, its pair as A sees it.
+fn carried_point(matrix: [[f32; 3]; 3], p: Vec3, point: Point) -> Point
+    ensures { λ r. ⌜ r ≡ carriedPoint matrix p point ⌝ }
+{
+    let flipped = flip_pair(point.pair);
+    let pair = flipped.pair;
+    Point {
+        position: add(rotation::mul_mv(matrix, point.position), p),
+        separation: point.separation,
+        pair,
+    }
+}
+
+// The point at a place below the count; at and above it, zero.
+fn carried_place(matrix: [[f32; 3]; 3], p: Vec3, count: u8, place: u8, point: Point) -> Point
+    ensures { λ r. ⌜ r ≡ carriedPlace matrix p count place point ⌝ }
+{
+    if place < count {
+        return carried_point(matrix, p, point);
+    }
+    point
+}
+
+// A contact of B's frame in A's, its normal turned so that it points from A to B.
+pub fn carried(transform: Transform, contact: Contact) -> Contact
+    ensures { λ r. ⌜ r ≡ carriedContact transform contact ⌝ }
+{
+    if contact.count == 0 {
+        return contact;
+    }
+    let matrix = rotation::make_matrix_from_quat(transform.q);
+    let p = transform.p;
+    let n = contact.count;
+    let normal = neg(rotation::mul_mv(matrix, contact.normal));
+    let p0 = carried_place(matrix, p, n, 0, contact.points[0]);
+    let p1 = carried_place(matrix, p, n, 1, contact.points[1]);
+    let p2 = carried_place(matrix, p, n, 2, contact.points[2]);
+    let p3 = carried_place(matrix, p, n, 3, contact.points[3]);
+    Contact {
+        points: [p0, p1, p2, p3],
+        normal,
+        count: n,
+    }
+}

@@ -1,0 +1,121 @@
+// Values written as bytes into a slice that is lent, the high byte first, as document 01's section "The hex program" has them. What each one's bytes
+// are is in specs/Bytes.antt.
+ghost use Prim.Native.Nat.{_+_, _≤_};
+ghost use mathlib.Core.List.{[], _∷_};
+ghost use lib.ListN.{length};
+ghost use Rattle.frame_encode.specs.Written.{Wrote};
+ghost use Rattle.frame_encode.specs.Bytes.{bytes32, floatBytes, vecBytes, pairBytes, pointBytes, pointsBytes, cacheBytes, headBytes, answerBytes};
+use manifold::Answer;
+use manifold::Contact;
+use manifold::FeaturePair;
+use manifold::Point;
+use manifold::SatCache;
+use manifold::bits::bits_of;
+use vector::Vec3;
+
+pub fn put_byte(out: &mut [u8], at: usize, b: u8)
+    requires { ⌜ at + 1 ≤ length (now out) ⌝ }
+    ensures { λ _. ⌜ Wrote (now (out .entry)) at (b ∷ []) (now (out .exit)) ⌝ }
+{
+    out[at] = b;
+}
+
+pub fn put_number(out: &mut [u8], at: usize, x: u32)
+    requires { ⌜ at + 4 ≤ length (now out) ⌝ }
+    ensures { λ _. ⌜ Wrote (now (out .entry)) at (bytes32 x) (now (out .exit)) ⌝ }
+{
+    put_byte(out, at, (x / 16777216) as u8);
+    put_byte(out, at + 1, (x / 65536 % 256) as u8);
+    put_byte(out, at + 2, (x / 256 % 256) as u8);
+    put_byte(out, at + 3, (x % 256) as u8);
+}
+
+// A NaN is 7fc00000.
+pub fn put_float(out: &mut [u8], at: usize, x: f32)
+    requires { ⌜ at + 4 ≤ length (now out) ⌝ }
+    ensures { λ _. ⌜ Wrote (now (out .entry)) at (floatBytes x) (now (out .exit)) ⌝ }
+{
+    let bits = bits_of(x);
+    put_number(out, at, bits);
+}
+
+pub fn put_vec(out: &mut [u8], at: usize, v: Vec3)
+    requires { ⌜ at + 12 ≤ length (now out) ⌝ }
+    ensures { λ _. ⌜ Wrote (now (out .entry)) at (vecBytes v) (now (out .exit)) ⌝ }
+{
+    put_float(out, at, v.x);
+    put_float(out, at + 4, v.y);
+    put_float(out, at + 8, v.z);
+}
+
+pub fn put_pair(out: &mut [u8], at: usize, p: FeaturePair)
+    requires { ⌜ at + 4 ≤ length (now out) ⌝ }
+    ensures { λ _. ⌜ Wrote (now (out .entry)) at (pairBytes p) (now (out .exit)) ⌝ }
+{
+    put_byte(out, at, p.owner1);
+    put_byte(out, at + 1, p.index1);
+    put_byte(out, at + 2, p.owner2);
+    put_byte(out, at + 3, p.index2);
+}
+
+pub fn put_point(out: &mut [u8], at: usize, p: Point)
+    requires { ⌜ at + 20 ≤ length (now out) ⌝ }
+    ensures { λ _. ⌜ Wrote (now (out .entry)) at (pointBytes p) (now (out .exit)) ⌝ }
+{
+    let position = p.position;
+    put_vec(out, at, position);
+    put_float(out, at + 12, p.separation);
+    let pair = p.pair;
+    put_pair(out, at + 16, pair);
+}
+
+pub fn put_cache(out: &mut [u8], at: usize, c: SatCache)
+    requires { ⌜ at + 8 ≤ length (now out) ⌝ }
+    ensures { λ _. ⌜ Wrote (now (out .entry)) at (cacheBytes c) (now (out .exit)) ⌝ }
+{
+    put_number(out, at, c.separation);
+    put_byte(out, at + 4, c.kind);
+    put_byte(out, at + 5, c.index_a);
+    put_byte(out, at + 6, c.index_b);
+    put_byte(out, at + 7, c.hit);
+}
+
+// 92, the status, the cache, the count and the normal.
+fn put_head(out: &mut [u8], a: Answer)
+    requires { ⌜ 103 ≤ length (now out) ⌝ }
+    ensures { λ _. ⌜ Wrote (now (out .entry)) 0 (headBytes a) (now (out .exit)) ⌝ }
+{
+    put_byte(out, 0, 0x92);
+    put_byte(out, 1, a.outcome.status);
+    let cache = a.cache;
+    put_cache(out, 2, cache);
+    put_byte(out, 10, a.outcome.contact.count);
+    let normal = a.outcome.contact.normal;
+    put_vec(out, 11, normal);
+}
+
+// The four places of points, those at and above the count too.
+fn put_points(out: &mut [u8], k: Contact)
+    requires { ⌜ 103 ≤ length (now out) ⌝ }
+    ensures { λ _. ⌜ Wrote (now (out .entry)) 23 (pointsBytes k) (now (out .exit)) ⌝ }
+{
+    let points = k.points;
+    let first = points[0];
+    put_point(out, 23, first);
+    let second = points[1];
+    put_point(out, 43, second);
+    let third = points[2];
+    put_point(out, 63, third);
+    let fourth = points[3];
+    put_point(out, 83, fourth);
+}
+
+// The answer to a call: 103 bytes.
+pub fn put_answer(out: &mut [u8], a: Answer)
+    requires { ⌜ 103 ≤ length (now out) ⌝ }
+    ensures { λ _. ⌜ Wrote (now (out .entry)) 0 (answerBytes a) (now (out .exit)) ⌝ }
+{
+    put_head(out, a);
+    let contact = a.outcome.contact;
+    put_points(out, contact);
+}

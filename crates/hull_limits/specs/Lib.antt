@@ -1,0 +1,2 @@
+pub mod Measures
+pub mod Transform

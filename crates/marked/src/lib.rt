@@ -1,1 +1,0 @@
-// No code: document 01's marked examples, in one table that antt computes.

@@ -1,2 +1,0 @@
-mod Shapes
-pub mod Table

@@ -1,1 +1,0 @@
-// No code: hulls in full and what the validator's definition answers on them, in one table that antt computes.

@@ -1,4 +1,0 @@
-pub mod Reach
-pub mod Products
-pub mod Passed
-pub mod Rows

@@ -1,2 +1,0 @@
-pub mod Sift
-pub mod Rows
