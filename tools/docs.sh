@@ -41,7 +41,7 @@ done < <(sed -n '/^## From document 01/,/^## How/p' README.md | grep '/specs/' |
 # Every path under crates/, host/, docs/, examples/ and tools/ that a page names.
 while IFS= read -r path; do
     [ -e "$path" ] || miss "a page names $path, and there is none"
-done < <(grep -ohE '\b(crates|host|docs|examples|tools)/[A-Za-z0-9_./-]+' README.md docs/*.md examples/README.md |
+done < <(grep -ohE '\b(crates|host|docs|examples|tools)/[A-Za-z0-9_./-]+' README.md CHANGELOG.md docs/*.md examples/README.md |
     sed 's/[.,:;]*$//' | grep -vE '^(host/target|docs/src|crates/NAME)|\.\.' | sort -u)
 
 # Every crate has its line in README's table and its word in FREEDOMS.md.
@@ -52,6 +52,6 @@ done
 
 # No line of code, definition, proof or page is over 160 characters.
 export LC_ALL=C.UTF-8
-while IFS= read -r place; do miss "over 160 characters: $place"; done < <(find crates docs examples README.md \( -name '*.rt' -o -name '*.antt' -o -name '*.md' \) |
+while IFS= read -r place; do miss "over 160 characters: $place"; done < <(find crates docs examples README.md CHANGELOG.md \( -name '*.rt' -o -name '*.antt' -o -name '*.md' \) |
     xargs grep -nE '^.{161,}$' | cut -d: -f1,2)
 exit $bad

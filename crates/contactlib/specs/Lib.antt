@@ -1,2 +1,3 @@
+pub mod Abi
 pub mod Framed
 pub mod Lent

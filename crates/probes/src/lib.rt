@@ -14,9 +14,7 @@ ghost use Rattle.vector.specs.Scalar.{minIntOf};
 ghost use Rattle.manifold.specs.declared.pairs.FeatureOwner.{FeatureOwner};
 ghost use Rattle.manifold.specs.Pairs.{pairOf, flipOf};
 ghost use Rattle.hull_limits.specs.Transform.{transformRight};
-ghost use Rattle.hull.specs.Rule8.{brokenRule};
 ghost use Rattle.probes.specs.Probes.{vectorsOf, rotationsOf, shapesOf, linesOf, limitsOf};
-use hull_links::HullSize;
 use lanes::FloatW;
 use manifold::FeaturePair;
 use manifold::pairs::FeatureOwner;
@@ -242,14 +240,6 @@ pub extern "C" fn probe_limits() -> Limits
         huge: manifold::limits::huge(),
         units: vector::scalar::get_length_units_per_meter(),
     }
-}
-
-// The first rule that a hull breaks, 0 if none; whatever is lent.
-#[no_mangle]
-pub extern "C" fn probe_first_broken_rule(numbers: &[f32], links: &[u8], size: HullSize) -> u8
-    ensures { λ r. ⌜ r ≡ brokenRule size (now (numbers .entry)) (now (links .entry)) ⌝ }
-{
-    hull::first_broken_rule(numbers, links, size)
 }
 
 #[no_mangle]

@@ -2,7 +2,7 @@
 
 use crate::same;
 use crate::shapes::Shape;
-use records::{Contact, Hull, HullSize, Outcome, Point, SatCache, Transform, Vec3};
+use records::{Contact, HullLists, HullSize, Outcome, Point, SatCache, Transform, Vec3};
 
 #[cfg(rust_text)]
 pub use text::Work;
@@ -29,8 +29,8 @@ pub struct Answer {
 #[derive(Debug, Clone, Copy)]
 pub struct Call<'a> {
     pub capacity: i32,
-    pub a: Hull<'a>,
-    pub b: Hull<'a>,
+    pub a: HullLists<'a>,
+    pub b: HullLists<'a>,
     pub transform: Transform,
     pub cache: SatCache,
 }
@@ -86,7 +86,7 @@ impl Call<'_> {
             2
         } else if !placed(self.transform) {
             3
-        } else if !in_range(self.a.size(), self.b.size(), self.cache) {
+        } else if !in_range(self.a.size, self.b.size, self.cache) {
             4
         } else {
             0
@@ -94,13 +94,13 @@ impl Call<'_> {
     }
 }
 
-fn good(hull: Hull) -> bool {
+fn good(hull: HullLists) -> bool {
     let HullSize {
         vertices,
         half_edges,
         faces,
-    } = hull.size();
-    validator::first_broken_rule(hull.numbers(), hull.links(), vertices, half_edges, faces) == 0
+    } = hull.size;
+    validator::first_broken_rule(hull.numbers, hull.links, vertices, half_edges, faces) == 0
 }
 
 fn placed(Transform { p, q }: Transform) -> bool {

@@ -59,7 +59,7 @@ mod text {
     use crate::shapes::Shape;
     use oracle::hull::HullData;
     use oracle::open;
-    use records::{FeaturePair, Hull, Point, SatCache};
+    use records::{FeaturePair, HullLists, Point, SatCache};
 
     pub fn pair(p: FeaturePair) -> open::FeaturePair {
         open::FeaturePair {
@@ -102,11 +102,11 @@ mod text {
     }
 
     /// Panics where the lists do not fit the sizes.
-    pub fn lent(hull: Hull) -> HullData {
-        let size = hull.size();
+    pub fn lent(hull: HullLists) -> HullData {
+        let size = hull.size;
         oracle::hull(
-            hull.numbers(),
-            hull.links(),
+            hull.numbers,
+            hull.links,
             size.vertices,
             size.half_edges,
             size.faces,

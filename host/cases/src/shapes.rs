@@ -1,7 +1,7 @@
 //! Hulls: a solid's record in the project's layout, with whatever the record leaves open chosen at random.
 
 use crate::Numbers;
-use records::{Hull, HullSize};
+use records::{HullLists, HullSize};
 use solids::Solid;
 use std::collections::HashMap;
 
@@ -43,8 +43,12 @@ pub enum Padding<'a> {
 
 impl Shape {
     /// The hull as it is lent, whatever its lists and sizes are.
-    pub fn lent(&self) -> Hull<'_> {
-        Hull::lent(self.size, &self.numbers, &self.links)
+    pub fn lent(&self) -> HullLists<'_> {
+        HullLists {
+            numbers: &self.numbers,
+            links: &self.links,
+            size: self.size,
+        }
     }
 
     /// The number of the first rule that it breaks by the second validator, 0 if none.

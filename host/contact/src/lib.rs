@@ -3,10 +3,26 @@
 //!
 //! A hull is lent, not copied, and judged by every call: one that breaks a rule is refused by its number, and so is a
 //! transform or a cache that does not fit. No input makes a call fault. A cache starts as [`SatCache::EMPTY`] and stays
-//! with its pair of hulls from step to step.
+//! with its pair of hulls from step to step. [`HullBuilder`] makes a hull from its vertices and faces.
+//!
+//! # What a host must know
+//!
+//! - Units: metres. Everything that comes out is in A's frame, the normal from A to B; a separation is below zero where the
+//!   hulls overlap.
+//! - Threads: the library has no state and allocates nothing; any number of threads may call it.
+//! - Stack: a call needs up to 80 KB of its thread's stack, [`answer`] 88 KB.
+//! - Floating point: the default environment, round to nearest, no flush to zero, no denormals as zero. Nothing tests it,
+//!   and with another one the answers are others.
+//! - Platform: x86-64 Linux. The library is looked for in the repository's target/staticlib, or in the folder that the
+//!   environment variable `CONTACT_LIBRARY_DIR` names; `cargo check` and `cargo doc` need none.
+//! - Version: [`check_library`]. Nothing is called of a library that has other records.
+//! - What is proved is the library. This wrapper is not: it hands over what it is given, and its types see to it that the
+//!   memory is there and that the cache overlaps nothing.
+//!
+//! # Example
 //!
 //! ```
-//! use contact::{collide, Hull, HullSize, Quat, Refusal, SatCache, Transform, Vec3};
+//! use contact::{collide, CacheKind, Hull, HullSize, Quat, Refusal, SatCache, Transform, Vec3};
 //!
 //! // A corner of a cube: four vertices, twelve half-edges, four faces.
 //! let size = HullSize { vertices: 4, half_edges: 12, faces: 4 };
@@ -36,7 +52,7 @@
 //! let mut cache = SatCache::EMPTY;
 //! let outcome = collide(&hull, &hull, at(0.99), &mut cache);
 //! assert_eq!(outcome.points().len(), 4);
-//! assert_eq!((cache.kind, cache.index_a), (2, 3)); // the slope of A
+//! assert_eq!(cache.kind(), CacheKind::FaceA { face: 3 }); // the slope of A
 //!
 //! // The next step begins with the axis that this one found.
 //! let outcome = collide(&hull, &hull, at(0.991), &mut cache);
@@ -49,11 +65,101 @@
 //! # Ok::<(), contact::HullError>(())
 //! ```
 
+pub use broken::Broken;
+pub use builder::{BuildError, Counted, HullBuilder, OwnedHull, FLAT_TOLERANCE};
+pub use hull::{Hull, HullError};
 pub use records::*;
 
+use std::fmt;
 use std::ops::Deref;
 
+mod broken;
+mod builder;
+mod hull;
 mod linked;
+
+/// Whether the linked library has the records of this wrapper. A host asks when it starts, to say so in its own way; every
+/// other function here panics with the same words where it has not, before anything is called.
+///
+/// ```
+/// contact::check_library()?;
+/// # Ok::<(), contact::OtherLibrary>(())
+/// ```
+#[inline]
+pub fn check_library() -> Result<(), OtherLibrary> {
+    // It takes nothing and returns a number.
+    match unsafe { linked::contact_abi() } {
+        ABI => Ok(()),
+        found => Err(OtherLibrary { found }),
+    }
+}
+
+/// The linked library has other records than this wrapper.
+#[derive(Debug, Clone, Copy, PartialEq, Eq)]
+pub struct OtherLibrary {
+    /// Its number.
+    pub found: u32,
+}
+
+impl fmt::Display for OtherLibrary {
+    fn fmt(&self, f: &mut fmt::Formatter) -> fmt::Result {
+        let found = self.found;
+        write!(
+            f,
+            "libcontactlib.a has ABI {found} and this wrapper has {ABI}: take both from the same release"
+        )
+    }
+}
+
+impl std::error::Error for OtherLibrary {}
+
+/// A refusal of a call; where it is one of a hull, with the rule that the hull breaks and the place.
+#[derive(Debug, Clone, PartialEq, Eq)]
+pub struct Refused {
+    pub refusal: Refusal,
+    pub broken: Option<Broken>,
+}
+
+impl Refused {
+    /// Why the call on these two hulls was refused; none where it was accepted. A hull is judged once more for it.
+    ///
+    /// ```
+    /// # use contact::*;
+    /// # let size = HullSize { vertices: 4, half_edges: 12, faces: 4 };
+    /// # let place = Transform { p: Vec3::ZERO, q: Quat::IDENTITY };
+    /// let (a, b) = (Hull::lent(size, &[], &[]), Hull::lent(size, &[], &[]));
+    /// let outcome = collide(&a, &b, place, &mut SatCache::default());
+    /// let refused = Refused::of(&outcome, &a, &b).unwrap();
+    /// assert_eq!(refused.refusal, Refusal::HullA);
+    /// println!("{refused}"); // refusal 1: hull A breaks a rule: H1 is broken: there are 0 numbers, and the sizes ask for 34; ..
+    /// ```
+    pub fn of(outcome: &Outcome, a: &Hull, b: &Hull) -> Option<Refused> {
+        let refusal = outcome.refusal()?;
+        let broken = match refusal {
+            Refusal::HullA => a.broken(),
+            Refusal::HullB => b.broken(),
+            _ => None,
+        };
+        Some(Refused { refusal, broken })
+    }
+}
+
+impl fmt::Display for Refused {
+    fn fmt(&self, f: &mut fmt::Formatter) -> fmt::Result {
+        let Refused { refusal, broken } = self;
+        match broken {
+            None => refusal.fmt(f),
+            Some(broken) => write!(
+                f,
+                "refusal {}: {}: {broken}",
+                refusal.number(),
+                refusal.meaning()
+            ),
+        }
+    }
+}
+
+impl std::error::Error for Refused {}
 
 /// The contact of hull A and hull B, B placed in A's frame. The cache becomes the next one, where the call is accepted.
 #[inline]
@@ -70,6 +176,7 @@ pub fn collide_with(
     transform: Transform,
     cache: &mut SatCache,
 ) -> Outcome {
+    linked::fits();
     // The library asks nothing of its lists and sizes, and writes to nothing but the cache.
     unsafe {
         linked::contact_collide(
@@ -124,6 +231,7 @@ pub fn answer(frame: &[u8]) -> Answer {
 /// [`LONGEST_ANSWER`], that is 0 and nothing is written.
 #[inline]
 pub fn answer_into(frame: &[u8], answer: &mut [u8]) -> usize {
+    linked::fits();
     // The library asks nothing of the two lists, and writes to nothing but the second.
     unsafe {
         linked::contact_answer(

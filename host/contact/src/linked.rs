@@ -1,14 +1,45 @@
 //! What `libcontactlib.a` exports. A slice is a pointer and a length.
 
+use crate::{check_library, OtherLibrary};
 use records::{HullSize, Outcome, SatCache, Transform};
 
+/// Nothing of a library with other records is called: they would be misread in silence.
+#[inline]
+pub fn fits() {
+    if let Err(other) = check_library() {
+        stop(other);
+    }
+}
+
+#[cold]
+#[inline(never)]
+fn stop(other: OtherLibrary) -> ! {
+    // Without the library the crate can be checked and documented, and not built: a constant in the body of a function is
+    // worked out when code is made of it, which `cargo check` does not do.
+    #[cfg(without_library)]
+    const {
+        panic!("{}", env!("CONTACT_WITHOUT_LIBRARY"))
+    };
+    panic!("{other}")
+}
+
 extern "C" {
+    pub fn contact_abi() -> u32;
+
     pub fn contact_answer(
         frame: *const u8,
         frame_len: usize,
         answer: *mut u8,
         answer_len: usize,
     ) -> usize;
+
+    pub fn contact_first_broken_rule(
+        numbers: *const f32,
+        numbers_len: usize,
+        links: *const u8,
+        links_len: usize,
+        size: HullSize,
+    ) -> u8;
 
     pub fn contact_collide(
         capacity: i32,

@@ -164,3 +164,60 @@ fn frames() {
     assert_eq!(answer_into(&[0x10, 0x40, 0x80, 0, 0], &mut small), 0);
     assert_eq!(small, [7; LONGEST_ANSWER - 1]);
 }
+
+/// One change of a cube for each rule that one change can break; what is said names the rule and what to do.
+#[test]
+fn rules() {
+    let good = Cube::new();
+    assert_eq!(good.hull().check(), Ok(()));
+    let short = Hull::lent(SIZE, &good.numbers[1..], &good.links);
+    assert_eq!(short.check(), Err(Rule::Sizes));
+    for (place, to, rule) in [
+        (8, 24, Rule::Ranges), // the next of half-edge 0
+        (9, 0, Rule::Twins),   // the twin of half-edge 0
+        (8, 8, Rule::Nexts),   // its next, of another face
+        (104, 8, Rule::Rings), // the stored edge of face 0
+        (0, 2, Rule::Fans),    // the stored edge of vertex 0
+    ] {
+        let mut cube = Cube::new();
+        cube.links[place] = to;
+        assert_eq!(cube.hull().check(), Err(rule), "links[{place}] = {to}");
+    }
+    let mut cube = Cube::new();
+    cube.numbers[53] = 8192.001; // the offset of face 5
+    assert_eq!(cube.hull().check(), Err(Rule::Numbers));
+
+    let mut cache = SatCache::EMPTY;
+    let outcome = collide(&good.hull(), &cube.hull(), at(2.0), &mut cache);
+    let refused = Refused::of(&outcome, &good.hull(), &cube.hull()).expect("hull B is broken");
+    assert_eq!(refused.refusal, Refusal::HullB);
+    assert_eq!(
+        refused.to_string(),
+        "refusal 2: hull B breaks a rule: H8 is broken: face 5 has offset 8192.001, not within 8192; what to do: keep \
+         coordinates, padding and box within 4096, offsets within 8192, vertices in the box, edges above 1/1024"
+    );
+    let outcome = collide(&good.hull(), &good.hull(), at(2.0), &mut cache);
+    assert_eq!(Refused::of(&outcome, &good.hull(), &good.hull()), None);
+}
+
+/// The same calls on many threads at once, and on a thread with no more stack than is stated.
+#[test]
+fn threads() {
+    let run = || {
+        let cube = Cube::new();
+        let mut cache = SatCache::EMPTY;
+        let calls = (0..2000).map(|i| at(1.9 + i as f32 / 10_000.0));
+        let outcomes: Vec<Outcome> = calls
+            .map(|place| collide(&cube.hull(), &cube.hull(), place, &mut cache))
+            .collect();
+        (outcomes, cache)
+    };
+    let alone = run();
+    let threads: Vec<_> = (0..8).map(|_| std::thread::spawn(run)).collect();
+    for thread in threads {
+        assert!(thread.join().expect("no call faults") == alone);
+    }
+    let small = std::thread::Builder::new().stack_size(96 * 1024);
+    let thread = small.spawn(run).expect("a thread");
+    assert!(thread.join().expect("no call faults") == alone);
+}

@@ -2,7 +2,7 @@
 
 use cases::calls::{Answer, Call, Given};
 use cases::shapes::Shape;
-use records::{FeaturePair, Hull, HullSize, Point, Quat, SatCache, Transform, Vec3};
+use records::{FeaturePair, HullLists, HullSize, Point, Quat, SatCache, Transform, Vec3};
 
 /// The kinds of frames; an answer's is 80 higher.
 pub const ROOT: u8 = 0x10;
@@ -201,16 +201,16 @@ pub fn call_frame(call: &Call) -> Vec<u8> {
     frame
 }
 
-fn put_hull(to: &mut Vec<u8>, hull: Hull) {
-    let size = hull.size();
+fn put_hull(to: &mut Vec<u8>, hull: HullLists) {
+    let size = hull.size;
     for count in [size.vertices, size.half_edges, size.faces] {
         to.extend((count as u16).to_be_bytes());
     }
     let lists = 6 + 3 * usize::from(size.vertices as u16).next_multiple_of(4);
-    let numbers = hull.numbers();
+    let numbers = hull.numbers;
     let (before, planes) = numbers.split_at(lists.min(numbers.len()));
     put_floats(to, before);
-    to.extend(hull.links());
+    to.extend(hull.links);
     put_floats(to, planes);
 }
 

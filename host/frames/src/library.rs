@@ -6,7 +6,7 @@ use crate::sorts::Frames;
 use crate::wanted;
 use cases::calls::{Answer, Call};
 
-/// The two functions that are exported, or stand-ins for them.
+/// The two exported functions that answer a call, or stand-ins for them.
 pub trait Library {
     /// The answer to a frame in bytes, written to `answer`: how many bytes it has. Where `answer` has fewer than 103,
     /// that is 0 and nothing is written.

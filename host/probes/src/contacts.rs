@@ -1,6 +1,7 @@
 //! The cuts of a polygon, the picks of at most four points, and the candidates of a face contact.
 
-use super::{first_broken_rule, Contact, FeaturePair, HullSize, Places, Plane, Transform, Vec3};
+use super::{Contact, FeaturePair, HullSize, Places, Plane, Transform, Vec3};
+use contact::Hull;
 
 /// The most corners of a polygon.
 pub const MAX_CLIP_POINTS: usize = 64;
@@ -146,7 +147,7 @@ pub struct Accepted<'a> {
 impl<'a> Accepted<'a> {
     /// The hull, if it breaks no rule.
     pub fn new(numbers: &'a [f32], links: &'a [u8], size: HullSize) -> Option<Self> {
-        let accepted = first_broken_rule(numbers, links, size) == 0;
+        let accepted = Hull::lent(size, numbers, links).check().is_ok();
         accepted.then_some(Accepted {
             numbers,
             links,

@@ -130,13 +130,6 @@ mod linked {
         pub fn probe_edge_pair(index_a: u8, index_b: u8) -> FeaturePair;
         pub fn probe_flip_pair(pair: FeaturePair) -> Flipped;
         pub fn probe_limits() -> Limits;
-        pub fn probe_first_broken_rule(
-            numbers: *const f32,
-            numbers_len: usize,
-            links: *const u8,
-            links_len: usize,
-            size: HullSize,
-        ) -> u8;
         pub fn probe_transform_accepted(t: Transform) -> bool;
     }
 }
@@ -215,20 +208,6 @@ pub fn flip_pair(pair: FeaturePair) -> Flipped {
 
 pub fn limits() -> Limits {
     unsafe { linked::probe_limits() }
-}
-
-/// The number of the first rule that the hull breaks, 0 if none. Any lists and any sizes may be asked about.
-#[inline]
-pub fn first_broken_rule(numbers: &[f32], links: &[u8], size: HullSize) -> u8 {
-    unsafe {
-        linked::probe_first_broken_rule(
-            numbers.as_ptr(),
-            numbers.len(),
-            links.as_ptr(),
-            links.len(),
-            size,
-        )
-    }
 }
 
 pub fn transform_accepted(t: Transform) -> bool {

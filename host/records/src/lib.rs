@@ -1,11 +1,19 @@
 //! What a host and the proved library hand each other: records in C's layout with the fields of their Rattle originals
-//! in their order, a hull as it is lent, and the refusals in words. Nothing is linked.
+//! in their order, a hull as it is lent, the refusals and the rules in words. Nothing is linked.
 
+mod cache;
 mod hull;
 mod refusal;
+mod rule;
 
-pub use hull::{Hull, HullError, HullSize};
+pub use cache::{CacheKind, SatCache};
+pub use hull::{HullLists, HullSize};
 pub use refusal::Refusal;
+pub use rule::Rule;
+
+/// The number of these records and of the functions that take them. The library has the number that it was built with
+/// (`contact_abi`), and the header has it too (`CONTACT_ABI`); where two of them differ, nothing is called.
+pub const ABI: u32 = 1;
 
 /// The most points of a contact, and the least capacity with which a call does any work.
 pub const MAX_MANIFOLD_POINTS: usize = 4;
@@ -67,28 +75,6 @@ pub struct FeaturePair {
     pub index1: u8,
     pub owner2: u8,
     pub index2: u8,
-}
-
-/// The axis that the last call found. Its separation is a bit pattern, since a NaN's bits are kept.
-#[derive(Debug, Clone, Copy, PartialEq, Eq, Default)]
-#[repr(C)]
-pub struct SatCache {
-    pub separation: u32,
-    pub kind: u8,
-    pub index_a: u8,
-    pub index_b: u8,
-    pub hit: u8,
-}
-
-impl SatCache {
-    /// Of type 0, as before the first call.
-    pub const EMPTY: SatCache = SatCache {
-        separation: 0,
-        kind: 0,
-        index_a: 0,
-        index_b: 0,
-        hit: 0,
-    };
 }
 
 /// A point of a contact, in A's frame; its separation is below zero where the hulls overlap there.

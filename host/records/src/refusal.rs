@@ -1,4 +1,4 @@
-//! The refusals of document 01 by their numbers, and what each means.
+//! The refusals of document 01 by their numbers: what each means, and what to do about it.
 
 use std::fmt;
 
@@ -37,23 +37,49 @@ impl Refusal {
     pub fn number(self) -> u8 {
         self as u8
     }
+
+    /// When it is given.
+    pub fn meaning(self) -> &'static str {
+        match self {
+            Refusal::HullA => "hull A breaks a rule",
+            Refusal::HullB => "hull B breaks a rule",
+            Refusal::Transform => {
+                "the transform is not finite, farther than 4096 on an axis, or no rotation"
+            }
+            Refusal::Cache => "the cache names a face or an edge that its hull does not have",
+            Refusal::PaddingWon => "a padding lane reaches farther than every vertex",
+            Refusal::CutFull => "a cut would put out a 65th vertex",
+            Refusal::NoFace => "the search has no face of the wanted side",
+            Refusal::Owner => "the pair to be flipped has an owner above 1",
+        }
+    }
+
+    /// What a host can do about it.
+    pub fn remedy(self) -> &'static str {
+        match self {
+            Refusal::HullA | Refusal::HullB => "ask for the rule that it breaks, and mend the hull",
+            Refusal::Transform => {
+                "give B's place in A's frame, and normalize the quaternion every few steps"
+            }
+            Refusal::Cache => {
+                "start this pair from an empty cache; a cache belongs to one pair of hulls"
+            }
+            Refusal::PaddingWon => "fill the padding with vertex 0",
+            Refusal::CutFull => "give the two faces fewer sides",
+            Refusal::NoFace => "nothing: it is proved that no call gives it",
+            Refusal::Owner => "an owner is 0 for hull A or 1 for hull B",
+        }
+    }
 }
 
 impl fmt::Display for Refusal {
     fn fmt(&self, f: &mut fmt::Formatter) -> fmt::Result {
-        let meaning = match self {
-            Refusal::HullA => "hull A breaks a rule",
-            Refusal::HullB => "hull B breaks a rule",
-            Refusal::Transform => "the transform breaks a rule",
-            Refusal::Cache => "the cache names a face or an edge that its hull does not have",
-            Refusal::PaddingWon => {
-                "the face that the search picked has a padding lane as its support vertex"
-            }
-            Refusal::CutFull => "a cut would put out a 65th vertex",
-            Refusal::NoFace => "the search has no face of the wanted side",
-            Refusal::Owner => "the pair to be flipped has an owner above 1",
-        };
-        write!(f, "refusal {}: {meaning}", self.number())
+        let (meaning, remedy) = (self.meaning(), self.remedy());
+        write!(
+            f,
+            "refusal {}: {meaning}; what to do: {remedy}",
+            self.number()
+        )
     }
 }
 

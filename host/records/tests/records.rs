@@ -3,18 +3,25 @@
 use records::*;
 use std::mem::{offset_of, size_of};
 
+/// Size and offsets of a record, as host/c/tests/frames.c has them of the header's.
+macro_rules! lies {
+    ($record:ty, $size:literal, $($field:ident $offset:literal),*) => {
+        assert_eq!(size_of::<$record>(), $size);
+        $(assert_eq!(offset_of!($record, $field), $offset);)*
+    };
+}
+
 #[test]
 fn layouts() {
-    assert_eq!(size_of::<HullSize>(), 24);
-    assert_eq!(size_of::<Transform>(), 28);
-    assert_eq!(size_of::<SatCache>(), 8);
-    assert_eq!(size_of::<Point>(), 20);
-    assert_eq!(size_of::<Outcome>(), 100);
-    assert_eq!(offset_of!(Outcome, contact), 4);
-    assert_eq!(offset_of!(Contact, normal), 80);
-    assert_eq!(offset_of!(Contact, count), 92);
-    assert_eq!(offset_of!(Transform, q), 12);
-    assert_eq!(offset_of!(SatCache, hit), 7);
+    lies!(Vec3, 12, x 0, y 4, z 8);
+    lies!(Quat, 16, v 0, s 12);
+    lies!(Transform, 28, p 0, q 12);
+    lies!(HullSize, 24, vertices 0, half_edges 8, faces 16);
+    lies!(SatCache, 8, separation 0, kind 4, index_a 5, index_b 6, hit 7);
+    lies!(FeaturePair, 4, owner1 0, index1 1, owner2 2, index2 3);
+    lies!(Point, 20, position 0, separation 12, pair 16);
+    lies!(Contact, 96, points 0, normal 80, count 92);
+    lies!(Outcome, 100, status 0, contact 4);
 }
 
 #[test]
@@ -56,4 +63,63 @@ fn lengths() {
     assert_eq!(size(0, 0, usize::MAX).numbers(), None);
     assert_eq!(size(0, usize::MAX, 0).links(), None);
     assert_eq!(size(usize::MAX, 0, 1).links(), None);
+}
+
+/// The header and the page of rules say what the refusals and the rules say here.
+#[test]
+fn one_wording() {
+    let header = include_str!("../../c/contact.h");
+    let page = include_str!("../../../docs/RULES.md");
+    let refusals = Refusal::ALL.map(|refusal| (refusal.meaning(), refusal.remedy()));
+    let rules = Rule::ALL.map(|rule| (rule.meaning(), rule.remedy()));
+    for (meaning, remedy) in refusals.into_iter().chain(rules) {
+        for words in [meaning, remedy] {
+            assert!(header.contains(&format!("return \"{words}\";")), "{words}");
+        }
+        assert!(page.contains(meaning), "{meaning}");
+        assert!(
+            page.contains(&format!("- what to do: {remedy}\n")),
+            "{remedy}"
+        );
+    }
+}
+
+#[test]
+fn rules() {
+    assert_eq!(Rule::of_number(0), None);
+    assert_eq!(Rule::of_number(9), None);
+    for number in 1..=8 {
+        let rule = Rule::of_number(number).expect("a rule");
+        assert_eq!(rule.number(), number);
+        let words = rule.to_string();
+        assert!(
+            words.starts_with(&format!("H{number} is broken: ")),
+            "{words}"
+        );
+        assert!(words.contains("; what to do: "), "{words}");
+    }
+}
+
+/// Every type of a cache in words, with the number that goes with it.
+#[test]
+fn caches() {
+    let cache = SatCache {
+        separation: 0xbf80_0000,
+        kind: 2,
+        index_a: 7,
+        index_b: 9,
+        hit: 1,
+    };
+    assert_eq!(cache.separation(), -1.0);
+    assert!(cache.hit() && !SatCache::EMPTY.hit());
+    let words = |kind| SatCache { kind, ..cache }.kind().to_string();
+    assert_eq!(words(2), "face 7 of A");
+    assert_eq!(words(3), "face 9 of B");
+    assert_eq!(words(4), "edge 7 of A across edge 9 of B");
+    assert_eq!(words(6), "a face of A to be searched for");
+    assert_eq!(words(7), "a face of B to be searched for");
+    assert_eq!(words(8), "a pair of edges to be searched for");
+    for kind in (0..=1).chain([5]).chain(9..=255) {
+        assert_eq!(words(kind), "no axis", "{kind}");
+    }
 }

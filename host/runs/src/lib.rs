@@ -2,6 +2,7 @@
 
 use cases::calls::{Answer, Call};
 use cases::shapes::Shape;
+use contact::{Hull, HullLists, Rule};
 use frames::library::Library;
 use probes::Accepted;
 
@@ -19,9 +20,15 @@ pub fn accepted(shape: &Shape) -> Accepted<'_> {
 #[inline]
 pub fn ours(call: &Call) -> Answer {
     let mut cache = call.cache;
-    let outcome =
-        contact::collide_with(call.capacity, &call.a, &call.b, call.transform, &mut cache);
+    let (a, b) = (call.a.into(), call.b.into());
+    let outcome = contact::collide_with(call.capacity, &a, &b, call.transform, &mut cache);
     Answer { outcome, cache }
+}
+
+/// The number of the first rule that a hull breaks, 0 if none, by the proved validator.
+#[inline]
+pub fn broken_rule(hull: HullLists) -> u8 {
+    Hull::from(hull).check().map_or_else(Rule::number, |()| 0)
 }
 
 /// The proved library that hosts link.

@@ -11,8 +11,7 @@ use cases::settled::Class;
 use oracle::hull::HullData;
 use oracle::math_functions as reading;
 use oracle::open::{self, collide_hulls, LocalManifold};
-use probes::first_broken_rule;
-use records::Hull;
+use runs::broken_rule;
 
 /// Fewer than elsewhere, since a batch is long.
 const COLD_BATCHES: usize = 100;
@@ -57,8 +56,10 @@ impl<'a> Timed<'a> {
 
     /// How many of the two hulls are good.
     fn judged(&self) -> usize {
-        let good = |hull: Hull| first_broken_rule(hull.numbers(), hull.links(), hull.size()) == 0;
-        usize::from(good(self.ours.a)) + usize::from(good(self.ours.b))
+        [self.ours.a, self.ours.b]
+            .into_iter()
+            .filter(|&hull| broken_rule(hull) == 0)
+            .count()
     }
 }
 

@@ -5,7 +5,7 @@ use cases::shapes::kinds::any_log;
 use cases::shapes::solids::{block, frustum, polygon, pyramid};
 use cases::shapes::Shape;
 use cases::Numbers;
-use probes::HullSize;
+use records::HullLists;
 
 /// Good hulls, so that every rule is gone through.
 pub fn run(numbers: &mut Numbers) {
@@ -20,21 +20,26 @@ pub fn run(numbers: &mut Numbers) {
     ] {
         line(
             what,
-            || judged(&shapes, probes::first_broken_rule),
+            || judged(&shapes, runs::broken_rule),
             || judged(&shapes, plain_rule),
         );
     }
 }
 
-fn plain_rule(numbers: &[f32], links: &[u8], size: HullSize) -> u8 {
-    validator::first_broken_rule(numbers, links, size.vertices, size.half_edges, size.faces)
+fn plain_rule(hull: HullLists) -> u8 {
+    let size = hull.size;
+    validator::first_broken_rule(
+        hull.numbers,
+        hull.links,
+        size.vertices,
+        size.half_edges,
+        size.faces,
+    )
 }
 
 /// Nanoseconds a call on these good hulls in turn.
-fn judged(shapes: &[Shape], rule: impl Fn(&[f32], &[u8], HullSize) -> u8) -> f64 {
-    let (nanoseconds, good) = timed(shapes, |shape| {
-        usize::from(rule(&shape.numbers, &shape.links, shape.size) == 0)
-    });
+fn judged(shapes: &[Shape], rule: impl Fn(HullLists) -> u8) -> f64 {
+    let (nanoseconds, good) = timed(shapes, |shape| usize::from(rule(shape.lent()) == 0));
     assert_eq!(good, CALLS);
     nanoseconds
 }

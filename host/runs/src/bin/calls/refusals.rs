@@ -3,7 +3,7 @@
 use cases::calls::broken::{hull, transform, Broken};
 use cases::calls::{caches, empty, same_answers, Call, Given};
 use cases::{met, one_in, Numbers, Tally};
-use records::{Hull, HullSize};
+use records::{HullLists, HullSize};
 use runs::ours;
 
 pub fn run(n: &mut Numbers, count: usize) -> bool {
@@ -56,7 +56,12 @@ fn capacity(t: &mut Tally, n: &mut Numbers) {
             half_edges: any_size(),
             faces: any_size(),
         };
-        [shape.lent(), Hull::lent(size, &[], &[])][n.below(2)]
+        let nothing = HullLists {
+            numbers: &[],
+            links: &[],
+            size,
+        };
+        [shape.lent(), nothing][n.below(2)]
     });
     let below = [i32::MIN, i32::MIN + 1, -5, -4, -1, 0, 1, 2, 3];
     let call = Call {

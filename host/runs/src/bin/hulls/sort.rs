@@ -2,7 +2,7 @@
 
 use cases::shapes::Shape;
 use cases::Tally;
-use probes::HullSize;
+use records::{HullLists, HullSize};
 use std::fmt::{Debug, Write};
 use std::time::{Duration, Instant};
 
@@ -35,7 +35,12 @@ impl Sort {
 
     /// Both validators on any lists and sizes.
     pub fn compare(&mut self, numbers: &[f32], links: &[u8], size: HullSize, known: Option<u8>) {
-        let ours = self.timed(|| probes::first_broken_rule(numbers, links, size), size);
+        let hull = HullLists {
+            numbers,
+            links,
+            size,
+        };
+        let ours = self.timed(|| runs::broken_rule(hull), size);
         let HullSize {
             vertices,
             half_edges,

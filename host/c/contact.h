@@ -1,0 +1,243 @@
+/* contact.h - the proved contact routine for convex hulls, for hosts in C and C++.
+
+   Two hulls, where B lies in A's frame and a small cache go in; a normal, at most four tagged points and the next cache
+   come out. Every function is proved to end without a fault whatever the numbers that it is handed are: input that breaks a
+   rule is refused by a number. docs/RULES.md has the rules, the refusals and the layouts.
+
+   What a host must know:
+   - Units: metres. Positions, normals and points are in A's frame; separations are metres, below zero where the hulls overlap.
+   - Memory: a pointer with a length points to that many elements, aligned as C aligns them, or is NULL where the length is
+     0. `cache` is never NULL. Nothing is kept after a call, nothing is allocated. What is written (`cache`, `answer`) overlaps nothing that is lent
+     beside it. Two lists that are only read may be the same.
+   - Threads: the functions have no state; any number of threads may call them, each with its own cache and answer.
+   - Stack: CONTACT_COLLIDE_STACK and CONTACT_ANSWER_STACK bytes at the most, beside what the caller needs itself.
+   - Floating point: the default environment of C: round to nearest, no flush to zero, no denormals as zero (MXCSR 1f80).
+     With another rounding the answers are others.
+   - Platform: x86-64 Linux (System V calls). Link libcontactlib.a; beside it only memcpy and memset are needed.
+   - Version: compare contact_abi() with CONTACT_ABI before anything else, and stop where they differ: the records would be
+     misread in silence. */
+#ifndef CONTACT_H
+#define CONTACT_H
+
+#include <stddef.h>
+#include <stdint.h>
+#include <string.h>
+
+#ifdef __cplusplus
+extern "C" {
+#endif
+
+/* The number of these records and functions. It goes up with every change of a record, of a function's parameters, or of
+   what a number in them means. */
+#define CONTACT_ABI 1
+
+/* The most points of a contact, and the least capacity with which a call does any work. */
+#define CONTACT_MAX_POINTS 4
+
+/* The most bytes of an answer to a frame. */
+#define CONTACT_LONGEST_ANSWER 103
+
+/* Bytes of stack that a call needs at the most; contact_first_broken_rule needs less. */
+#define CONTACT_COLLIDE_STACK (80 * 1024)
+#define CONTACT_ANSWER_STACK (88 * 1024)
+
+/* ---- what a call is handed */
+
+typedef struct {
+    float x, y, z;
+} contact_vec3;
+
+/* A rotation as a unit quaternion; its squares sum to 0.99 to 1.01. */
+typedef struct {
+    contact_vec3 v;
+    float s; /* the scalar part */
+} contact_quat;
+
+/* Where B lies in A's frame: turned by q, then moved by p. */
+typedef struct {
+    contact_vec3 p; /* metres, within 4096 on each axis */
+    contact_quat q;
+} contact_transform;
+
+/* How many vertices, half-edges and faces a hull has. */
+typedef struct {
+    size_t vertices;   /* V, 4 to 128 */
+    size_t half_edges; /* H, even, 12 to 256 */
+    size_t faces;      /* F, 4 to 128 */
+} contact_size;
+
+/* A hull is two lists and its sizes.
+   numbers: box low x, y, z; box high x, y, z; the x of every vertex, then every y, then every z, each of the three lists
+   padded to a multiple of four places (fill the padding with vertex 0); then for each face its outward unit normal x, y, z
+   and its offset, the dot of the normal with any corner of the face.
+   links: for each vertex a half-edge that starts there; for each half-edge its next, its twin, its origin and its face, a
+   byte each; for each face one of its half-edges. A face's ring goes counter-clockwise as seen from outside, and half-edges
+   2k and 2k + 1 are twins. */
+
+/* How many numbers and links a hull of these sizes has; of sizes that no hull can have the result means nothing. */
+static inline size_t contact_numbers_len(contact_size size) {
+    return 6 + 3 * ((size.vertices + 3) / 4 * 4) + 4 * size.faces;
+}
+
+static inline size_t contact_links_len(contact_size size) {
+    return size.vertices + 4 * size.half_edges + size.faces;
+}
+
+enum contact_kind {
+    CONTACT_NOTHING = 0,     /* no axis: every axis is searched; so do 1, 5 and 9 to 255 */
+    CONTACT_FACE_OF_A = 2,   /* index_a: the face */
+    CONTACT_FACE_OF_B = 3,   /* index_b: the face */
+    CONTACT_EDGES = 4,       /* index_a, index_b: the even half-edge of each edge */
+    CONTACT_ONLY_FACE_A = 6, /* search for a face of A alone */
+    CONTACT_ONLY_FACE_B = 7, /* search for a face of B alone */
+    CONTACT_ONLY_EDGES = 8   /* search for a pair of edges alone */
+};
+
+/* The axis that the last call found. One for each pair of hulls, all zero before the first call; a call that is accepted
+   leaves the next one in its place, one that is refused keeps every bit. */
+typedef struct {
+    uint32_t separation; /* the bits of a float, in metres: contact_separation reads it */
+    uint8_t kind;        /* enum contact_kind */
+    uint8_t index_a;
+    uint8_t index_b;
+    uint8_t hit; /* 1 where the last call was served by the axis of the one before, else 0 */
+} contact_cache;
+
+static inline float contact_separation(contact_cache cache) {
+    float separation;
+    memcpy(&separation, &cache.separation, sizeof separation);
+    return separation;
+}
+
+/* ---- what comes out */
+
+/* The tag of a point, the same from step to step while the same features meet: two half-edges. */
+typedef struct {
+    uint8_t owner1; /* 0: a half-edge of hull A, 1: of hull B */
+    uint8_t index1; /* its number */
+    uint8_t owner2;
+    uint8_t index2;
+} contact_pair;
+
+typedef struct {
+    contact_vec3 position; /* in A's frame */
+    float separation;      /* metres, below zero where the hulls overlap there */
+    contact_pair pair;
+} contact_point;
+
+typedef struct {
+    contact_point points[CONTACT_MAX_POINTS]; /* zero at and above count */
+    contact_vec3 normal;                      /* from A to B, of length 1; zero where count is 0 */
+    uint8_t count;                            /* 0 to 4 */
+} contact_manifold;
+
+enum contact_status {
+    CONTACT_ACCEPTED = 0,
+    CONTACT_HULL_A = 1,
+    CONTACT_HULL_B = 2,
+    CONTACT_TRANSFORM = 3,
+    CONTACT_CACHE = 4,
+    CONTACT_PADDING_WON = 5,
+    CONTACT_CUT_FULL = 6,
+    CONTACT_NO_FACE = 7, /* proved never to be given */
+    CONTACT_OWNER = 8    /* of a frame of kind 11 alone */
+};
+
+/* The bytes between the fields are not set: compare fields, not memory. */
+typedef struct {
+    uint8_t status; /* enum contact_status */
+    contact_manifold contact; /* empty where the call was refused */
+} contact_outcome;
+
+/* ---- the functions */
+
+/* The number of the library that is linked. */
+uint32_t contact_abi(void);
+
+/* One call. capacity: room for points, CONTACT_MAX_POINTS; with less the call is accepted, has no points and looks at
+   nothing else. b_in_a: where B lies in A's frame. cache: not NULL; it becomes the next cache, or keeps every bit where the
+   call is refused. The two hulls may be the same lists. */
+contact_outcome contact_collide(
+    int32_t capacity,
+    const float *numbers_a, size_t numbers_a_len, const uint8_t *links_a, size_t links_a_len, contact_size size_a,
+    const float *numbers_b, size_t numbers_b_len, const uint8_t *links_b, size_t links_b_len, contact_size size_b,
+    contact_transform b_in_a, contact_cache *cache);
+
+/* The number of the first rule that a hull breaks, 0 if none. With a capacity of 4 or more contact_collide gives
+   CONTACT_HULL_A exactly where this is not 0 of hull A, and CONTACT_HULL_B exactly where it is 0 of A and not 0 of B. Of any
+   lists and sizes; nothing is written. */
+uint8_t contact_first_broken_rule(
+    const float *numbers, size_t numbers_len, const uint8_t *links, size_t links_len, contact_size size);
+
+/* The answer to one frame in bytes (docs/RULES.md, "Frames"), as the program gives it: how many bytes it has, which stand
+   first in answer; what stands behind them is kept. Where answer_len is below CONTACT_LONGEST_ANSWER, 0, and nothing is
+   written. */
+size_t contact_answer(const uint8_t *frame, size_t frame_len, uint8_t *answer, size_t answer_len);
+
+/* ---- in words, for people: what a number means, and what to do about it. NULL for a number that has none. */
+
+static inline const char *contact_status_text(uint8_t status) {
+    switch (status) {
+    case CONTACT_ACCEPTED: return "accepted";
+    case CONTACT_HULL_A: return "hull A breaks a rule";
+    case CONTACT_HULL_B: return "hull B breaks a rule";
+    case CONTACT_TRANSFORM: return "the transform is not finite, farther than 4096 on an axis, or no rotation";
+    case CONTACT_CACHE: return "the cache names a face or an edge that its hull does not have";
+    case CONTACT_PADDING_WON: return "a padding lane reaches farther than every vertex";
+    case CONTACT_CUT_FULL: return "a cut would put out a 65th vertex";
+    case CONTACT_NO_FACE: return "the search has no face of the wanted side";
+    case CONTACT_OWNER: return "the pair to be flipped has an owner above 1";
+    default: return NULL;
+    }
+}
+
+static inline const char *contact_status_remedy(uint8_t status) {
+    switch (status) {
+    case CONTACT_ACCEPTED: return "nothing";
+    case CONTACT_HULL_A:
+    case CONTACT_HULL_B: return "ask for the rule that it breaks, and mend the hull";
+    case CONTACT_TRANSFORM: return "give B's place in A's frame, and normalize the quaternion every few steps";
+    case CONTACT_CACHE: return "start this pair from an empty cache; a cache belongs to one pair of hulls";
+    case CONTACT_PADDING_WON: return "fill the padding with vertex 0";
+    case CONTACT_CUT_FULL: return "give the two faces fewer sides";
+    case CONTACT_NO_FACE: return "nothing: it is proved that no call gives it";
+    case CONTACT_OWNER: return "an owner is 0 for hull A or 1 for hull B";
+    default: return NULL;
+    }
+}
+
+static inline const char *contact_rule_text(uint8_t rule) {
+    switch (rule) {
+    case 0: return "no rule is broken";
+    case 1: return "a size is outside its limits, or a list has not the length that the sizes ask for";
+    case 2: return "a stored number of a vertex, a half-edge or a face is out of range";
+    case 3: return "half-edges 2k and 2k+1 are not each other's twin";
+    case 4: return "a half-edge's next has another face, or does not start where the half-edge ends";
+    case 5: return "two half-edges have the same next";
+    case 6: return "a face's stored edge is not its own, or its ring is shorter than 3 or misses a half-edge";
+    case 7: return "a vertex's stored edge starts elsewhere, or its fan misses a half-edge that starts there";
+    case 8: return "a number is not finite or beyond its limit, a normal is not of length 1, or an edge is too short";
+    default: return NULL;
+    }
+}
+
+static inline const char *contact_rule_remedy(uint8_t rule) {
+    switch (rule) {
+    case 0: return "nothing";
+    case 1: return "keep to V 4 to 128, H even and 12 to 256, F 4 to 128, and look at the lists' lengths";
+    case 2: return "look for a stored number at or above V, H or F";
+    case 3: return "number the two half-edges of each edge side by side, the first of them even";
+    case 4: return "go round every face counter-clockwise as seen from outside, each side from the end of the last";
+    case 5: return "give every half-edge a next of its own";
+    case 6: return "store for each face a half-edge of its ring, and give a face with two rings two numbers";
+    case 7: return "store for each vertex a half-edge that starts there, and give a corner where two fans meet two vertices";
+    case 8: return "keep coordinates, padding and box within 4096, offsets within 8192, vertices in the box, edges above 1/1024";
+    default: return NULL;
+    }
+}
+
+#ifdef __cplusplus
+}
+#endif
+
+#endif

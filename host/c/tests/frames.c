@@ -1,0 +1,364 @@
+/* The header held to the library: every size and offset as a number, and the stored frames through the header's records.
+   A frame of kind 12 is taken apart into records, called, and its answer put together again from the outcome's fields: a
+   field that stood elsewhere in the library would show in some answer. The answers stored beside the frames are the Rust's.
+   Calls run on a thread whose stack is painted, so that what they need of it is seen.
+
+       frames FRAMES ANSWERS
+
+   It compiles as C and as C++. */
+#define _POSIX_C_SOURCE 200809L
+#include "../contact.h"
+
+#include <pthread.h>
+#include <stdio.h>
+#include <stdlib.h>
+#include <sys/types.h>
+
+#ifdef __cplusplus
+#define HOLDS(fact) static_assert(fact, #fact)
+#define ENDS [[noreturn]]
+#else
+#define HOLDS(fact) _Static_assert(fact, #fact)
+#define ENDS _Noreturn
+#endif
+#define LIES(record, field, offset, size) \
+    HOLDS(offsetof(record, field) == (offset)); \
+    HOLDS(sizeof(((record *)0)->field) == (size))
+
+HOLDS(sizeof(contact_vec3) == 12);
+LIES(contact_vec3, x, 0, 4);
+LIES(contact_vec3, y, 4, 4);
+LIES(contact_vec3, z, 8, 4);
+HOLDS(sizeof(contact_quat) == 16);
+LIES(contact_quat, v, 0, 12);
+LIES(contact_quat, s, 12, 4);
+HOLDS(sizeof(contact_transform) == 28);
+LIES(contact_transform, p, 0, 12);
+LIES(contact_transform, q, 12, 16);
+HOLDS(sizeof(contact_size) == 24);
+LIES(contact_size, vertices, 0, 8);
+LIES(contact_size, half_edges, 8, 8);
+LIES(contact_size, faces, 16, 8);
+HOLDS(sizeof(contact_cache) == 8);
+LIES(contact_cache, separation, 0, 4);
+LIES(contact_cache, kind, 4, 1);
+LIES(contact_cache, index_a, 5, 1);
+LIES(contact_cache, index_b, 6, 1);
+LIES(contact_cache, hit, 7, 1);
+HOLDS(sizeof(contact_pair) == 4);
+LIES(contact_pair, owner1, 0, 1);
+LIES(contact_pair, index1, 1, 1);
+LIES(contact_pair, owner2, 2, 1);
+LIES(contact_pair, index2, 3, 1);
+HOLDS(sizeof(contact_point) == 20);
+LIES(contact_point, position, 0, 12);
+LIES(contact_point, separation, 12, 4);
+LIES(contact_point, pair, 16, 4);
+HOLDS(sizeof(contact_manifold) == 96);
+LIES(contact_manifold, points, 0, 80);
+LIES(contact_manifold, normal, 80, 12);
+LIES(contact_manifold, count, 92, 1);
+HOLDS(sizeof(contact_outcome) == 100);
+LIES(contact_outcome, status, 0, 1);
+LIES(contact_outcome, contact, 4, 96);
+
+#ifdef __cplusplus
+extern "C" {
+#endif
+/* The same function as the machine sees it: the outcome comes back through a pointer that is handed over first. */
+void *collide_into(
+    void *outcome, int32_t capacity,
+    const float *numbers_a, size_t numbers_a_len, const uint8_t *links_a, size_t links_a_len, contact_size size_a,
+    const float *numbers_b, size_t numbers_b_len, const uint8_t *links_b, size_t links_b_len, contact_size size_b,
+    contact_transform b_in_a, contact_cache *cache) __asm__("contact_collide");
+#ifdef __cplusplus
+}
+#endif
+
+enum { LONGEST_FRAME = 10000, WATCHED = 32, MOST_NUMBERS = 2048, MOST_LINKS = 2048 };
+
+ENDS static void stop(const char *what, long line) {
+    printf("FAILED: frame %ld: %s\n", line, what);
+    exit(1);
+}
+
+/* ---- a frame, taken apart */
+
+static uint8_t frame[LONGEST_FRAME];
+static size_t frame_len, read_at;
+
+static uint32_t taken(int bytes) {
+    uint32_t number = 0;
+    while (bytes-- > 0) number = number << 8 | frame[read_at++];
+    return number;
+}
+
+static float float_of(uint32_t bits) {
+    float number;
+    memcpy(&number, &bits, sizeof number);
+    return number;
+}
+
+static float float_taken(void) { return float_of(taken(4)); }
+
+static contact_vec3 vec3_taken(void) {
+    contact_vec3 v;
+    v.x = float_taken();
+    v.y = float_taken();
+    v.z = float_taken();
+    return v;
+}
+
+typedef struct {
+    contact_size size;
+    float numbers[MOST_NUMBERS];
+    uint8_t links[MOST_LINKS];
+    size_t numbers_len, links_len;
+} hull;
+
+/* Not so where the hull has no room here. */
+static int hull_taken(hull *to) {
+    to->size.vertices = taken(2);
+    to->size.half_edges = taken(2);
+    to->size.faces = taken(2);
+    to->numbers_len = contact_numbers_len(to->size);
+    to->links_len = contact_links_len(to->size);
+    if (to->numbers_len > MOST_NUMBERS || to->links_len > MOST_LINKS) return 0;
+    size_t planes = to->numbers_len - 4 * to->size.faces, i;
+    for (i = 0; i < planes; i++) to->numbers[i] = float_taken();
+    for (i = 0; i < to->links_len; i++) to->links[i] = (uint8_t)taken(1);
+    for (i = planes; i < to->numbers_len; i++) to->numbers[i] = float_taken();
+    return 1;
+}
+
+static int32_t capacity;
+static contact_transform b_in_a;
+static contact_cache cache_given;
+static hull a, b;
+
+static int call_taken(void) {
+    read_at = 1;
+    capacity = (int32_t)taken(4);
+    cache_given.separation = taken(4);
+    cache_given.kind = (uint8_t)taken(1);
+    cache_given.index_a = (uint8_t)taken(1);
+    cache_given.index_b = (uint8_t)taken(1);
+    cache_given.hit = (uint8_t)taken(1);
+    b_in_a.p = vec3_taken();
+    b_in_a.q.v = vec3_taken();
+    b_in_a.q.s = float_taken();
+    return hull_taken(&a) && hull_taken(&b) && read_at == frame_len;
+}
+
+/* ---- an answer, put together */
+
+static uint8_t answer[CONTACT_LONGEST_ANSWER];
+static size_t answer_len;
+
+static void put(uint32_t number, int bytes) {
+    while (bytes-- > 0) answer[answer_len++] = (uint8_t)(number >> 8 * bytes);
+}
+
+static void put_float(float number) {
+    uint32_t bits;
+    memcpy(&bits, &number, sizeof bits);
+    put((bits & 0x7fffffff) > 0x7f800000 ? 0x7fc00000 : bits, 4);
+}
+
+static void put_vec3(contact_vec3 v) {
+    put_float(v.x);
+    put_float(v.y);
+    put_float(v.z);
+}
+
+static void put_answer(const contact_outcome *outcome, contact_cache next) {
+    int i;
+    answer_len = 0;
+    put(0x92, 1);
+    put(outcome->status, 1);
+    put(next.separation, 4);
+    put(next.kind, 1);
+    put(next.index_a, 1);
+    put(next.index_b, 1);
+    put(next.hit, 1);
+    put(outcome->contact.count, 1);
+    put_vec3(outcome->contact.normal);
+    for (i = 0; i < CONTACT_MAX_POINTS; i++) {
+        const contact_point *point = &outcome->contact.points[i];
+        put_vec3(point->position);
+        put_float(point->separation);
+        put(point->pair.owner1, 1);
+        put(point->pair.index1, 1);
+        put(point->pair.owner2, 1);
+        put(point->pair.index2, 1);
+    }
+}
+
+/* ---- calls on a painted stack; what is watched lies outside it */
+
+static struct {
+    uint8_t outcome[sizeof(contact_outcome) + WATCHED];
+    contact_cache cache;
+    uint8_t behind_cache[WATCHED];
+    uint8_t answer[CONTACT_LONGEST_ANSWER];
+    uint8_t behind_answer[WATCHED];
+} came;
+static size_t answered;
+static uint8_t rule_a, rule_b;
+
+static void *nothing(void *unused) { return unused; }
+
+static void *collide(void *unused) {
+    collide_into(
+        came.outcome, capacity, a.numbers, a.numbers_len, a.links, a.links_len, a.size, b.numbers, b.numbers_len, b.links,
+        b.links_len, b.size, b_in_a, &came.cache);
+    return unused;
+}
+
+static void *judge(void *unused) {
+    rule_a = contact_first_broken_rule(a.numbers, a.numbers_len, a.links, a.links_len, a.size);
+    rule_b = contact_first_broken_rule(b.numbers, b.numbers_len, b.links, b.links_len, b.size);
+    return unused;
+}
+
+static void *answer_frame(void *unused) {
+    answered = contact_answer(frame, frame_len, came.answer, sizeof came.answer);
+    return unused;
+}
+
+static size_t touched(void *(*work)(void *)) {
+    enum { SIZE = 1 << 18, PAINT = 0xa5 };
+    static uint8_t *stack;
+    pthread_attr_t attributes;
+    pthread_t thread;
+    size_t low = 0;
+    if (!stack) stack = (uint8_t *)aligned_alloc(4096, SIZE);
+    memset(stack, PAINT, SIZE);
+    pthread_attr_init(&attributes);
+    if (pthread_attr_setstack(&attributes, stack, SIZE) || pthread_create(&thread, &attributes, work, NULL)) {
+        stop("no thread could be made", 0);
+    }
+    pthread_join(thread, NULL);
+    pthread_attr_destroy(&attributes);
+    while (stack[low] == PAINT) low++;
+    return SIZE - low;
+}
+
+static int all_are(const uint8_t *bytes, size_t count, uint8_t byte) {
+    while (count-- > 0) {
+        if (*bytes++ != byte) return 0;
+    }
+    return 1;
+}
+
+/* Both ways to answer the frame, held to its answer, with `mark` in all that is not to be written. */
+static struct {
+    long calls, points[CONTACT_MAX_POINTS + 1], statuses[9], rules[9], others;
+    size_t collide_stack, judge_stack, answer_stack;
+} met;
+static size_t thread_itself;
+
+static void deeper(size_t *most, size_t depth) {
+    if (depth - thread_itself > *most) *most = depth - thread_itself;
+}
+
+static void hold(const uint8_t *wanted, size_t wanted_len, uint8_t mark, long line) {
+    memset(&came, mark, sizeof came);
+    deeper(&met.answer_stack, touched(answer_frame));
+    if (answered != wanted_len || memcmp(came.answer, wanted, wanted_len)) stop("contact_answer differs", line);
+    if (!all_are(came.answer + answered, sizeof came.answer - answered, mark)) stop("a byte behind the answer", line);
+    if (!all_are(came.behind_answer, WATCHED, mark)) stop("a byte behind the list", line);
+    if (frame_len == 0 || frame[0] != 0x12 || wanted[0] != 0x92) {
+        met.others++;
+        return;
+    }
+    if (!call_taken()) return;
+    came.cache = cache_given;
+    deeper(&met.collide_stack, touched(collide));
+    deeper(&met.judge_stack, touched(judge));
+    contact_outcome outcome;
+    memcpy(&outcome, came.outcome, sizeof outcome);
+    put_answer(&outcome, came.cache);
+    if (answer_len != wanted_len || memcmp(answer, wanted, wanted_len)) stop("contact_collide differs", line);
+    if (!all_are(came.outcome + sizeof outcome, WATCHED, mark)) stop("a byte behind the outcome", line);
+    if (!all_are(came.behind_cache, WATCHED, mark)) stop("a byte behind the cache", line);
+    if (capacity >= CONTACT_MAX_POINTS) {
+        if ((outcome.status == CONTACT_HULL_A) != (rule_a != 0)) stop("refusal 1 and the rule of A", line);
+        if ((outcome.status == CONTACT_HULL_B) != (rule_a == 0 && rule_b != 0)) stop("refusal 2 and the rule of B", line);
+    }
+    met.calls++;
+    met.points[outcome.contact.count]++;
+    met.statuses[outcome.status]++;
+    met.rules[rule_a]++;
+    met.rules[rule_b]++;
+}
+
+/* ---- the files */
+
+static uint8_t digit(int character) {
+    return (uint8_t)(character >= 'a' ? character - 'a' + 10 : character - '0');
+}
+
+/* The bytes of the next line; *count is -1 where it is no hexadecimal or too long for a frame. Not so at the end. */
+static int line_taken(FILE *from, uint8_t *to, size_t room, long *count) {
+    static char *line;
+    static size_t size;
+    ssize_t length = getline(&line, &size, from), i;
+    if (length < 0) return 0;
+    if (line[length - 1] == '\n') length--;
+    line[length] = 0;
+    *count = -1;
+    if (length % 2 || strspn(line, "0123456789abcdef") != (size_t)length || (size_t)length / 2 > room) return 1;
+    for (i = 0; i < length / 2; i++) to[i] = (uint8_t)(digit(line[2 * i]) << 4 | digit(line[2 * i + 1]));
+    *count = length / 2;
+    return 1;
+}
+
+static void most_stack(const char *what, size_t most, size_t limit) {
+    printf("  stack of %s: %zu bytes of %zu\n", what, most, limit);
+    if (most > limit) stop("more stack than is stated", 0);
+}
+
+int main(int count, char **words) {
+    static uint8_t wanted[CONTACT_LONGEST_ANSWER];
+    long frame_bytes, wanted_bytes;
+    long number = 0;
+    int i;
+    FILE *frames = count == 3 ? fopen(words[1], "r") : NULL;
+    FILE *answers = count == 3 ? fopen(words[2], "r") : NULL;
+    if (!frames || !answers) {
+        printf("usage: frames FRAMES ANSWERS\n");
+        return 2;
+    }
+    if (contact_abi() != CONTACT_ABI) stop("the library has another ABI than the header", 0);
+    thread_itself = touched(nothing);
+    while (line_taken(frames, frame, sizeof frame, &frame_bytes)) {
+        number++;
+        if (!line_taken(answers, wanted, sizeof wanted, &wanted_bytes) || wanted_bytes < 0) stop("has no answer", number);
+        if (frame_bytes < 0) continue;
+        frame_len = (size_t)frame_bytes;
+        hold(wanted, (size_t)wanted_bytes, 0x5a, number);
+        hold(wanted, (size_t)wanted_bytes, 0xc3, number);
+    }
+    printf("  %ld calls through the header's records and %ld other frames, twice each;", met.calls / 2, met.others / 2);
+    printf(" points 0 to 4:");
+    for (i = 0; i <= CONTACT_MAX_POINTS; i++) printf(" %ld", met.points[i] / 2);
+    printf("; refusals 0 to 6:");
+    for (i = 0; i <= 6; i++) printf(" %ld", met.statuses[i] / 2);
+    printf("; rules 0 to 8:");
+    for (i = 0; i <= 8; i++) printf(" %ld", met.rules[i] / 2);
+    printf("\n");
+    most_stack("contact_collide", met.collide_stack, CONTACT_COLLIDE_STACK);
+    most_stack("contact_first_broken_rule", met.judge_stack, CONTACT_COLLIDE_STACK);
+    most_stack("contact_answer", met.answer_stack, CONTACT_ANSWER_STACK);
+    for (i = 0; i <= CONTACT_MAX_POINTS; i++) {
+        if (!met.points[i]) stop("a number of points was never met", number);
+    }
+    for (i = 0; i <= 6; i++) {
+        if (!met.statuses[i]) stop("a refusal was never met", number);
+    }
+    for (i = 0; i <= 8; i++) {
+        if (!met.rules[i]) stop("a rule was never met", number);
+    }
+    return 0;
+}

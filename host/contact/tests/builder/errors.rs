@@ -1,0 +1,103 @@
+//! Each error from the smallest change to a good hull, with its place and its sentence. What good hulls, changes and
+//! sentences are stands here; first the order in which errors are told.
+
+use super::{broken_rule, builder};
+use cases::shapes::solids::{block, Solid};
+use contact::*;
+
+mod planes;
+mod rings;
+
+/// Half-size 1.
+fn cube() -> Solid {
+    block([1.0; 3])
+}
+
+/// A corner of a cube; the last face is the slope.
+pub fn tetrahedron() -> Solid {
+    Solid {
+        corners: vec![
+            [0.0, 0.0, 0.0],
+            [1.0, 0.0, 0.0],
+            [0.0, 1.0, 0.0],
+            [0.0, 0.0, 1.0],
+        ],
+        faces: [[0, 2, 1], [0, 1, 3], [0, 3, 2], [1, 2, 3]]
+            .map(Vec::from)
+            .to_vec(),
+    }
+}
+
+fn changed(mut solid: Solid, change: impl FnOnce(&mut Solid)) -> Solid {
+    change(&mut solid);
+    solid
+}
+
+pub fn turn_all(solid: &mut Solid) {
+    solid.faces.iter_mut().for_each(|ring| ring.reverse());
+}
+
+fn error(builder: HullBuilder) -> BuildError {
+    builder.build().map(|_| ()).expect_err("it is wrong")
+}
+
+/// The cube with this change is refused so, in a sentence that has these words.
+fn refused(change: impl FnOnce(&mut Solid), wanted: BuildError, words: &str) {
+    says(builder(&changed(cube(), change)), wanted, words);
+}
+
+fn says(builder: HullBuilder, wanted: BuildError, words: &str) {
+    let found = error(builder);
+    assert_eq!(found, wanted);
+    let sentence = found.to_string();
+    assert!(sentence.contains(words), "{sentence}");
+}
+
+fn builds(builder: HullBuilder) {
+    let hull = builder.build().unwrap_or_else(|error| panic!("{error}"));
+    assert_eq!(broken_rule(&hull), 0);
+}
+
+#[test]
+fn good_ones() {
+    builds(builder(&cube()));
+    builds(builder(&tetrahedron()));
+}
+
+/// The first that is wrong is told: each step mends that, and the next one is.
+#[test]
+fn order() {
+    let mut solid = changed(cube(), |it| {
+        it.corners.extend([[f64::NAN, 0.0, 0.0], [0.0, 0.0, 0.0]]);
+        it.corners[7] = [1.0, 1.0, 1.5];
+        turn_all(it);
+        it.faces[0] = vec![2, 6, 9, 0];
+        it.faces.push(vec![0, 99]);
+    });
+    let name = |solid: &Solid| {
+        let debug = format!("{:?}", error(builder(solid)));
+        debug.split(' ').next().unwrap_or_default().to_string()
+    };
+    assert_eq!(name(&solid), "Coordinate");
+    solid.corners[8] = [0.0; 3];
+    assert_eq!(name(&solid), "ShortRing");
+    solid.faces[6].push(0);
+    assert_eq!(name(&solid), "NoSuchVertex");
+    solid.faces[6][1] = 1;
+    assert_eq!(name(&solid), "RepeatedVertex");
+    solid.faces[6] = vec![0, 1, 3];
+    assert_eq!(name(&solid), "SameDirection");
+    solid.faces.pop();
+    assert_eq!(name(&solid), "OpenEdge");
+    solid.faces[0] = vec![2, 6, 4, 0];
+    assert_eq!(name(&solid), "UnusedVertex");
+    solid.corners.truncate(8);
+    solid.corners[0] = solid.corners[1];
+    assert_eq!(name(&solid), "ShortEdge");
+    solid.corners[0][0] = -1.0;
+    assert_eq!(name(&solid), "NotFlat");
+    solid.corners[7][2] = 1.0;
+    assert_eq!(name(&solid), "Clockwise");
+    turn_all(&mut solid);
+    builds(builder(&solid));
+}

@@ -1,0 +1,189 @@
+//! Coordinates, counts, rings, sides and the lengths of edges.
+
+use super::*;
+
+#[test]
+fn coordinates() {
+    refused(
+        |cube| cube.corners[7][1] = -4096.5,
+        BuildError::Coordinate {
+            vertex: 7,
+            axis: 'y',
+            value: -4096.5,
+        },
+        "vertex 7 has y = -4096.5 m",
+    );
+    refused(
+        |cube| cube.corners[2][0] = f64::INFINITY,
+        BuildError::Coordinate {
+            vertex: 2,
+            axis: 'x',
+            value: f32::INFINITY,
+        },
+        "vertex 2 has x = inf m",
+    );
+    let found = error(builder(&changed(cube(), |cube| {
+        cube.corners[0][2] = f64::NAN
+    })));
+    assert!(matches!(
+        found,
+        BuildError::Coordinate { vertex: 0, axis: 'z', value } if value.is_nan()
+    ));
+    assert!(found.to_string().contains("vertex 0 has z = NaN m"));
+    builds(builder(&block([4096.0; 3])));
+}
+
+#[test]
+fn counts() {
+    let count = |what, found, least, most| BuildError::Count {
+        what,
+        found,
+        least,
+        most,
+    };
+    let corners = |count| HullBuilder::new().vertices((0..count).map(|i| [i as f32, 0.0, 0.0]));
+    let faces = |count| (0..count).fold(corners(4), |builder, _| builder.face([0, 1, 2]));
+    let vertices = |found| count(Counted::Vertices, found, 4, 128);
+    says(
+        HullBuilder::new(),
+        vertices(0),
+        "has 0 vertices, and 4 to 128",
+    );
+    says(corners(3), vertices(3), "has 3 vertices, and 4 to 128");
+    says(
+        corners(129),
+        vertices(129),
+        "has 129 vertices, and 4 to 128",
+    );
+    let of_faces = |found| count(Counted::Faces, found, 4, 128);
+    says(faces(0), of_faces(0), "has 0 faces, and 4 to 128");
+    says(faces(3), of_faces(3), "has 3 faces, and 4 to 128");
+    says(faces(129), of_faces(129), "has 129 faces, and 4 to 128");
+    says(
+        HullBuilder::log(43, 1.0, 1.0, 2.0),
+        count(Counted::HalfEdges, 258, 12, 256),
+        "has 258 half-edges (the sides of all rings), and 12 to 256",
+    );
+    // The largest sizes that a ring of three corners allows are refused for something else.
+    for good in [corners(128), faces(4), faces(85)] {
+        assert!(!matches!(
+            error(good),
+            BuildError::Count {
+                what: Counted::HalfEdges,
+                ..
+            }
+        ));
+    }
+}
+
+#[test]
+fn logs() {
+    let log = |sides| HullBuilder::log(sides, 1.0, 1.0, 2.0);
+    for (sides, found) in [(0, 0), (1, 2), (65, 130), (usize::MAX, 258)] {
+        let wanted = BuildError::Count {
+            what: Counted::Vertices,
+            found,
+            least: 4,
+            most: 128,
+        };
+        says(log(sides), wanted, "vertices");
+    }
+    let wanted = BuildError::ShortRing {
+        face: 0,
+        corners: 2,
+    };
+    says(log(2), wanted, "face 0 has 2 corners");
+    let inside_out = error(HullBuilder::log(12, 1.0, 1.0, -2.0));
+    assert!(matches!(inside_out, BuildError::Clockwise { face: 0, .. }));
+    let nan = error(HullBuilder::log(12, 1.0, f32::NAN, 2.0));
+    assert!(matches!(nan, BuildError::Coordinate { vertex: 12, .. }));
+}
+
+#[test]
+fn rings() {
+    for corners in [0, 2] {
+        refused(
+            |cube| cube.faces[3].truncate(corners),
+            BuildError::ShortRing { face: 3, corners },
+            &format!("the ring of face 3 has {corners} corners, and 3"),
+        );
+    }
+    for vertex in [8, usize::MAX] {
+        refused(
+            |cube| cube.faces[2][1] = vertex,
+            BuildError::NoSuchVertex {
+                face: 2,
+                vertex,
+                vertices: 8,
+            },
+            &format!("the ring of face 2 names vertex {vertex}, and there are 8"),
+        );
+    }
+    // The ring of a seventh face need not end.
+    let seventh = BuildError::NoSuchVertex {
+        face: 6,
+        vertex: 8,
+        vertices: 8,
+    };
+    says(builder(&cube()).face(0..usize::MAX), seventh, "vertex 8");
+    let seventh = BuildError::RepeatedVertex { face: 6, vertex: 7 };
+    let endless = (0..8).chain(std::iter::repeat(7));
+    says(builder(&cube()).face(endless), seventh, "vertex 7 twice");
+    refused(
+        |cube| cube.faces[4].push(0),
+        BuildError::RepeatedVertex { face: 4, vertex: 0 },
+        "the ring of face 4 names vertex 0 twice",
+    );
+}
+
+#[test]
+fn sides() {
+    refused(
+        |cube| cube.faces[1].reverse(),
+        BuildError::SameDirection {
+            from: 1,
+            to: 5,
+            faces: [1, 2],
+        },
+        "faces 1 and 2 both go from vertex 1 to vertex 5",
+    );
+    refused(
+        |cube| {
+            let _ = cube.faces.pop();
+        },
+        BuildError::OpenEdge {
+            face: 0,
+            from: 4,
+            to: 6,
+        },
+        "face 0 goes from vertex 4 to vertex 6, and no ring goes back",
+    );
+    refused(
+        |cube| cube.corners.push([0.0; 3]),
+        BuildError::UnusedVertex { vertex: 8 },
+        "vertex 8 is in no ring",
+    );
+}
+
+#[test]
+fn short_edges() {
+    let wanted = BuildError::ShortEdge {
+        from: 0,
+        to: 4,
+        length: 0.0008,
+        least: 1.0 / 1024.0,
+    };
+    let words = "from vertex 0 to vertex 4 is too short: on no axis are its ends more than 0.0008 m apart, and \
+                 0.0009765625 m";
+    says(builder(&block([1.0, 1.0, 0.0004])), wanted, words);
+    builds(builder(&block([1.0, 1.0, 0.5 / 1024.0])));
+    // It is the greatest difference that counts, and neither the sum nor the distance.
+    let aslant = changed(tetrahedron(), |it| it.corners[3] = [0.0, 0.0009, -0.0009]);
+    let wanted = BuildError::ShortEdge {
+        from: 3,
+        to: 0,
+        length: 0.0009,
+        least: 1.0 / 1024.0,
+    };
+    says(builder(&aslant), wanted, "more than 0.0009 m apart");
+}

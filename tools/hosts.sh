@@ -1,0 +1,127 @@
+#!/usr/bin/env bash
+# What hosts link, tried as a host would: the header as C and as C++, held to the library; the two sample programs outside
+# the repository, built by README.md's own lines; a library with another ABI number; the wrapper where there is no library,
+# and where it is for another processor. On any processor but x86-64 all of it is compiled, and nothing is linked.
+#
+#     tools/hosts.sh PREFIX      PREFIX: where ./install has put the library; not read where nothing is linked
+#
+# Says what it did, and ends with a non-zero status at the first thing that is not as it should be.
+set -u
+cd "$(dirname "$0")/.." || exit 1
+repository=$PWD
+prefix=${1-}
+linked=$([ "$(uname -m)" = x86_64 ] && echo yes)
+outside=$(mktemp -d) || exit 1
+trap 'rm -rf "$outside"' EXIT
+fail() { echo "FAILED: $*"; exit 1; }
+
+for tool in cc c++ pkg-config cargo rustc; do
+    command -v $tool >/dev/null || fail "no command '$tool' (README.md, 'What you need')"
+done
+
+# readme_lines HEADING: the indented lines below a heading of README.md, with the two folders that it names put in.
+readme_lines() {
+    sed -n "/^### $1\$/,/^##/p" README.md | sed -n 's/^    //p' | sed "s|FROZENHAMES|$repository|g; s|PREFIX|$prefix|g"
+}
+
+# ---- the header, and the number that stands in five places
+strict="-Wall -Wextra -Werror"
+echo '#include "contact.h"' >"$outside/header.c"
+cp "$outside/header.c" "$outside/header.cpp"
+for standard in c99 c11 c17; do
+    cc -std=$standard -pedantic $strict -Ihost/c -fsyntax-only "$outside/header.c" || fail "the header is no $standard"
+done
+for standard in c++11 c++17; do
+    c++ -std=$standard -pedantic $strict -Ihost/c -fsyntax-only "$outside/header.cpp" || fail "the header is no $standard"
+done
+abi=$(sed -n 's/^#define CONTACT_ABI \([0-9]*\)$/\1/p' host/c/contact.h)
+for place in 'host/c/contact.pc:abi=' 'host/records/src/lib.rs:pub const ABI: u32 = ' 'crates/contactlib/src/abi.rt:pub const ABI: u32 = ' \
+    'crates/contactlib/specs/Abi.antt:abiNumber = '; do
+    grep -qE "^${place#*:}$abi;?\$" "${place%%:*}" || fail "${place%%:*} has another ABI number than the header, $abi"
+done
+echo "the header is C99, C11, C17, C++11 and C++17; its ABI number $abi is that of library, definition, wrapper and pkg-config file"
+
+# ---- the library has what the header declares, no memory of its own, and needs no more than the header says
+if [ "$linked" ]; then
+    symbols() { nm "$prefix/lib/libcontactlib.a" | awk -v kinds="$1" 'NF > 1 && $(NF - 1) ~ "^[" kinds "]$" { print $NF }' | sort -u | xargs; }
+    declared=$(grep -vE '^(static|#| |/\*)' host/c/contact.h | grep -oE '\bcontact_[a-z_]+\(' | tr -d '(' | sort -u | xargs)
+    [ "$(symbols T)" = "$declared" ] || fail "the library exports $(symbols T), and the header declares $declared"
+    [ "$(symbols U)" = "memcpy memset" ] || fail "the library needs $(symbols U)"
+    [ -z "$(symbols BbDdCGgSs)" ] || fail "the library has memory of its own: $(symbols BbDdCGgSs)"
+    echo "the library exports $declared, needs memcpy and memset alone and has no memory of its own"
+fi
+
+# ---- its records against the library, on the stored frames
+compile_both() { # MORE WORDS..: the test of the header, as C and as C++
+    cc -std=c11 -O2 $strict -pedantic host/c/tests/frames.c -o "$outside/frames-c" "$@" || fail "the header's test is no C"
+    c++ -std=c++17 -O2 $strict -x c++ host/c/tests/frames.c -x none -o "$outside/frames-cpp" "$@" || fail "the header's test is no C++"
+}
+if [ "$linked" ]; then
+    compile_both "$prefix/lib/libcontactlib.a" -pthread
+    for language in c cpp; do
+        "$outside/frames-$language" crates/contact/stdin crates/contact/stdout || fail "the header's records are not the library's ($language)"
+    done
+else
+    compile_both -c
+fi
+
+# ---- a program in C and one in Rust, outside the repository, by what README.md says
+mkdir -p "$outside/in-c" "$outside/in-rust/src"
+cp host/c/settle.c "$outside/in-c/"
+cp host/contact/examples/settle.rs "$outside/in-rust/src/main.rs"
+readme_lines 'A Rust host' | sed -n '/^\[package\]/,/^contact =/p' >"$outside/in-rust/Cargo.toml"
+build_c=$(readme_lines 'A C host' | grep -E '^(export|cc) ')
+build_rust=$(readme_lines 'A Rust host' | grep 'cargo ')
+[ "$(wc -l <<<"$build_c")" = 2 ] && [ -s "$outside/in-rust/Cargo.toml" ] && [ "$build_rust" ] || fail "README.md does not say how hosts are built"
+export CARGO_NET_OFFLINE=true
+if [ -z "$linked" ]; then
+    cc -std=c99 -pedantic $strict -Ihost/c -c "$outside/in-c/settle.c" -o "$outside/settle.o" || fail "the sample in C does not compile"
+    (cd "$outside/in-rust" && cargo check --quiet) || fail "the sample in Rust does not compile"
+    echo "both sample programs compile; none was linked on $(uname -m)"
+    exit 0
+fi
+(cd "$outside/in-c" && eval "$build_c") >"$outside/c.said" 2>&1 || { cat "$outside/c.said"; fail "the sample in C, by README.md's lines"; }
+(cd "$outside/in-rust" && eval "$build_rust") >"$outside/rust.said" 2>"$outside/rust.words" || {
+    cat "$outside/rust.words" "$outside/rust.said"
+    fail "the sample in Rust, by README.md's lines"
+}
+readme_lines 'What both print' >"$outside/readme.said"
+host/target/release/settle >"$outside/text.said" || fail "the sample's story by the Rust text"
+grep -q '^left out' "$outside/text.said" && { cat "$outside/text.said"; cp "$outside/readme.said" "$outside/text.said"; }
+for said in c rust readme; do
+    cmp "$outside/text.said" "$outside/$said.said" || fail "the story of the sample ($said) is not the one that the Rust text tells"
+done
+echo "two logs settled by a program in C and by one in Rust, both outside the repository and built by README.md's lines; both tell"
+echo "the story that the Rust text tells and README.md prints"
+
+# ---- a library with another number
+mkdir "$outside/other"
+echo 'unsigned contact_abi(void) { return 4000000000u; } int contact_collide, contact_answer, contact_first_broken_rule;' >"$outside/other.c"
+cc -c "$outside/other.c" -o "$outside/other.o" && ar rcs "$outside/other/libcontactlib.a" "$outside/other.o" || fail "no other library"
+refuses() { # WORDS..: the program says that the library is another, and ends with a status that is not 0
+    "$@" >"$outside/said" 2>&1 && { cat "$outside/said"; fail "$1 goes on with a library of another number"; }
+    grep -q "libcontactlib.a has ABI 4000000000 and .* has $abi: take both from the same release" "$outside/said" ||
+        { cat "$outside/said"; fail "$1 does not say why"; }
+}
+cc "$outside/in-c/settle.c" -Ihost/c -o "$outside/settle-other" "$outside/other/libcontactlib.a" -lm || fail "the sample with another library"
+refuses "$outside/settle-other"
+CONTACT_LIBRARY_DIR=$outside/other cargo build --release --quiet --manifest-path "$outside/in-rust/Cargo.toml" || fail "the sample with another library"
+refuses "$outside/in-rust/target/release/settle"
+echo "with a library of another ABI number both samples say so and stop"
+
+# ---- the wrapper without a library, and for another processor
+without() { # CHECK OR BUILD
+    CONTACT_LIBRARY_DIR=$outside/nowhere cargo "$1" --release --manifest-path "$outside/in-rust/Cargo.toml" 2>"$outside/said"
+}
+sentence="there is no libcontactlib.a in $outside/nowhere, which CONTACT_LIBRARY_DIR names: run \`./install PREFIX\`"
+without check || { cat "$outside/said"; fail "the wrapper cannot be checked without a library"; }
+grep -qF "$sentence" "$outside/said" || { cat "$outside/said"; fail "cargo check does not say that there is no library"; }
+without build && fail "the wrapper is built without a library"
+grep -qF "error[E0080]: evaluation panicked: $sentence" "$outside/said" ||
+    { cat "$outside/said"; fail "cargo build does not say that there is no library"; }
+rustc --edition 2021 host/contact/build.rs -o "$outside/build" || fail "the wrapper's build script"
+CARGO_CFG_TARGET_ARCH=aarch64 CARGO_CFG_TARGET_OS=linux CARGO_MANIFEST_DIR=$repository/host/contact "$outside/build" >"$outside/said"
+grep -q '^cargo::warning=the proved library is for x86-64 Linux and this build is for aarch64 linux: build with `cargo build --target' "$outside/said" ||
+    { cat "$outside/said"; fail "the wrapper does not say that the library is for another processor"; }
+grep -q 'rustc-link-lib' "$outside/said" && fail "a library for another processor is linked"
+echo "without a library, or for another processor, the wrapper can be checked, and says in one sentence why it cannot be built"
