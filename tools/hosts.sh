@@ -57,7 +57,8 @@ compile_both() { # MORE WORDS..: the test of the header, as C and as C++
     c++ -std=c++17 -O2 $strict -x c++ host/c/tests/frames.c -x none -o "$outside/frames-cpp" "$@" || fail "the header's test is no C++"
 }
 if [ "$linked" ]; then
-    compile_both "$prefix/lib/libcontactlib.a" -pthread
+    # bound at once: the loader's own work in a first call would be seen on the painted stack
+    compile_both "$prefix/lib/libcontactlib.a" -pthread -Wl,-z,now
     for language in c cpp; do
         "$outside/frames-$language" crates/contact/stdin crates/contact/stdout || fail "the header's records are not the library's ($language)"
     done

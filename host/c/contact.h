@@ -7,8 +7,8 @@
    What a host must know:
    - Units: metres. Positions, normals and points are in A's frame; separations are metres, below zero where the hulls overlap.
    - Memory: a pointer with a length points to that many elements, aligned as C aligns them, or is NULL where the length is
-     0. `cache` is never NULL. Nothing is kept after a call, nothing is allocated. What is written (`cache`, `answer`) overlaps nothing that is lent
-     beside it. Two lists that are only read may be the same.
+     0. `cache` is never NULL. Nothing is kept after a call, nothing is allocated. What is written (`cache`, `answer`)
+     overlaps nothing that is lent beside it. Two lists that are only read may be the same.
    - Threads: the functions have no state; any number of threads may call them, each with its own cache and answer.
    - Stack: CONTACT_COLLIDE_STACK and CONTACT_ANSWER_STACK bytes at the most, beside what the caller needs itself.
    - Floating point: the default environment of C: round to nearest, no flush to zero, no denormals as zero (MXCSR 1f80).
@@ -145,7 +145,7 @@ enum contact_status {
 
 /* The bytes between the fields are not set: compare fields, not memory. */
 typedef struct {
-    uint8_t status; /* enum contact_status */
+    uint8_t status;           /* enum contact_status */
     contact_manifold contact; /* empty where the call was refused */
 } contact_outcome;
 
