@@ -139,8 +139,7 @@ enum contact_status {
     CONTACT_CACHE = 4,
     CONTACT_PADDING_WON = 5,
     CONTACT_CUT_FULL = 6,
-    CONTACT_NO_FACE = 7, /* proved never to be given */
-    CONTACT_OWNER = 8    /* of a frame of kind 11 alone */
+    CONTACT_OWNER = 8 /* of a frame of kind 11 alone; the number before it has ended and is given to nothing */
 };
 
 /* The bytes between the fields are not set: compare fields, not memory. */
@@ -185,7 +184,6 @@ static inline const char *contact_status_text(uint8_t status) {
     case CONTACT_CACHE: return "the cache names a face or an edge that its hull does not have";
     case CONTACT_PADDING_WON: return "a padding lane reaches farther than every vertex";
     case CONTACT_CUT_FULL: return "a cut would put out a 65th vertex";
-    case CONTACT_NO_FACE: return "the search has no face of the wanted side";
     case CONTACT_OWNER: return "the pair to be flipped has an owner above 1";
     default: return NULL;
     }
@@ -200,7 +198,6 @@ static inline const char *contact_status_remedy(uint8_t status) {
     case CONTACT_CACHE: return "start this pair from an empty cache; a cache belongs to one pair of hulls";
     case CONTACT_PADDING_WON: return "fill the padding with vertex 0";
     case CONTACT_CUT_FULL: return "give the two faces fewer sides";
-    case CONTACT_NO_FACE: return "nothing: it is proved that no call gives it";
     case CONTACT_OWNER: return "an owner is 0 for hull A or 1 for hull B";
     default: return NULL;
     }

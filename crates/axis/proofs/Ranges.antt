@@ -14,30 +14,22 @@ use Rattle.rotation.specs.Rotation.{Rows}
 use Rattle.hull_links.specs.declared.HullSize.{HullSize}
 use Rattle.hull.specs.Accepted.{Accepted}
 use Rattle.axis_best.specs.declared.Lead.{Lead}
-use Rattle.axis_best.specs.Leads.{noneOf, betterOf, stopsOf}
+use Rattle.axis_best.specs.Leads.{noneOf, newBest, betterOf, stopsOf}
 use Rattle.axis_best.proofs.Searches.{holds}
 use Rattle.axis_faces.specs.Faces.{faceTakenOf, faceSearchWith, faceSearchOf}
 use Rattle.axis_edges.specs.declared.EdgeA.{EdgeA}
 use Rattle.axis_edges.specs.declared.EdgeB.{EdgeB}
 use Rattle.axis_edges.specs.Edges.{passesOf, parallelOf, triedOf, edgePairOf, rowPairs, dotRight}
 use Rattle.axis_pairs.specs.All.{allPairs}
-use Rattle.axis.specs.declared.Wanted.{Wanted}
 use Rattle.axis.specs.declared.Search.{Search}
 use Rattle.axis.specs.Ranges.{EdgeInRange, InRange}
-use Rattle.axis.specs.Search.{axisOf, apartOf, edgeOf, missingOf, foundOf, searchAnswerOf, sideOfA, sideOfB, pairsOf, searchOf}
+use Rattle.axis.specs.Search.{axisOf, apartOf, edgeOf, foundOf, searchAnswerOf, sideOfA, sideOfB, pairsOf, searchOf}
 
 -- ---- what every new best keeps, where it holds of its numbers and of its stop
 module _ (P : Lead → Type 0) (early : Bool) where
   -- a new best, with its numbers
   abbrev New : ℕ → ℕ → Type 0
-  New a b = (normal : Vec3) (separation : Float) → P (record {
-    found = true;
-    apart = stopsOf early separation;
-    normal = normal;
-    separation = separation;
-    «index_a» = a;
-    «index_b» = b;
-  })
+  New a b = (normal : Vec3) (separation : Float) → P (newBest early normal separation a b)
 
   better-keeps : (normal : Vec3) (separation : Float) (a b : ℕ) (lead : Lead) → New a b → P lead → P (betterOf early normal separation a b lead)
   unfolding betterOf
@@ -70,18 +62,17 @@ module _ (P : Lead → Type 0) (early : Bool) where
 -- ---- the numbers of an answer
 module _ (s t : HullSize) (a b e : Lead) (on-a : a .«index_a» < s .faces) (on-b : b .«index_b» < t .faces)
     (on-edges : (e .«index_a» < s .«half_edges») × (e .«index_b» < t .«half_edges»)) where
-  answer-in-range : (w : Wanted) → InRange s t (searchAnswerOf w a b e)
+  answer-in-range : InRange s t (searchAnswerOf a b e)
   unfolding searchAnswerOf apartOf foundOf edgeOf axisOf InRange EdgeInRange
-  answer-in-range w =
+  answer-in-range =
       picked (InRange s t) (a .apart) tt
       (picked (InRange s t) (b .apart) tt
-      (picked (InRange s t) (e .apart) tt
-      (picked (InRange s t) (missingOf w a b) tt (on-a, on-b, picked (EdgeInRange s t) (e .found) on-edges tt))))
+      (picked (InRange s t) (e .apart) tt (on-a, on-b, picked (EdgeInRange s t) (e .found) on-edges tt)))
 
 module _ {s t : HullSize} {n m : List Float} {l k : List ℕ} (x : Transform) (a : Accepted s n l) (b : Accepted t m k) where
-  pub in-range : (early : Bool) (w : Wanted) → InRange s t (searchOf s n l t m k x early w)
+  pub in-range : (early : Bool) → InRange s t (searchOf s n l t m k x early)
   unfolding searchOf sideOfA sideOfB pairsOf
-  in-range early w =
+  in-range early =
       answer-in-range s t _ _ _
       (side-keeps (λ (lead : Lead). lead .«index_a» < s .faces) early true _ (x .p) s n t m (omega (arith, a .numbers-fit .f-low))
       (λ f v h normal separation. h))
@@ -89,28 +80,26 @@ module _ {s t : HullSize} {n m : List Float} {l k : List ℕ} (x : Transform) (a
       (λ f v h normal separation. h))
       (pairs-keep (λ (lead : Lead). (lead .«index_a» < s .«half_edges») × (lead .«index_b» < t .«half_edges»)) early _ _ _ _
       (omega (arith, a .links-fit .h-low), omega (arith, b .links-fit .h-low)) (λ i j g h normal separation. (omega (arith, g), omega (arith, h))))
-      w
 
 -- ---- without an early stop
 unfoldable pub NotApart : Search → Type 0
 NotApart (Search.Apart a) = ⊥
 NotApart (Search.Found f) = Unit {0}
-NotApart Search.NoFace = Unit {0}
 
 passed-by : (P : Search → Type 0) (u : Bool) (x : Search) {y : Search} → u ≡ false → P y → P (cond u x y)
 passed-by P u x {y} q p = subst (λ (z : Bool). P (cond z x y)) (sym q) p
 
-not-apart : (w : Wanted) (a b e : Lead) → a .apart ≡ false → b .apart ≡ false → e .apart ≡ false → NotApart (searchAnswerOf w a b e)
+not-apart : (a b e : Lead) → a .apart ≡ false → b .apart ≡ false → e .apart ≡ false → NotApart (searchAnswerOf a b e)
 unfolding searchAnswerOf foundOf NotApart
-not-apart w a b e p q r = passed-by NotApart (a .apart) (apartOf 2 a) p
-    (passed-by NotApart (b .apart) (apartOf 3 b) q (passed-by NotApart (e .apart) (apartOf 4 e) r (picked NotApart (missingOf w a b) tt tt)))
+not-apart a b e p q r = passed-by NotApart (a .apart) (apartOf 2 a) p
+    (passed-by NotApart (b .apart) (apartOf 3 b) q (passed-by NotApart (e .apart) (apartOf 4 e) r tt))
 
-pub never-apart : (s : HullSize) (n : List Float) (l : List ℕ) (t : HullSize) (m : List Float) (k : List ℕ) (x : Transform) (w : Wanted)
-    → NotApart (searchOf s n l t m k x false w)
+pub never-apart : (s : HullSize) (n : List Float) (l : List ℕ) (t : HullSize) (m : List Float) (k : List ℕ) (x : Transform)
+    → NotApart (searchOf s n l t m k x false)
 unfolding searchOf sideOfA sideOfB pairsOf stopsOf
-never-apart s n l t m k x w =
+never-apart s n l t m k x =
     let going : Lead → Type 0 = λ lead. lead .apart ≡ false in
-    not-apart w _ _ _
+    not-apart _ _ _
     (side-keeps going false true _ (x .p) s n t m refl (λ f v h normal separation. refl))
     (side-keeps going false false _ (x .p) t m s n refl (λ f v h normal separation. refl))
     (pairs-keep going false _ _ _ _ refl (λ i j g h normal separation. refl))

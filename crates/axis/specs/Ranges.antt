@@ -12,4 +12,3 @@ EdgeInRange s t EdgeAxis.None = Unit {0}
 unfoldable pub InRange : HullSize → HullSize → Search → Type 0
 InRange s t (Search.Apart a) = Unit {0}
 InRange s t (Search.Found f) = (f .«face_a» .«index_a» < s .faces) × (f .«face_b» .«index_b» < t .faces) × EdgeInRange s t (f .edge)
-InRange s t Search.NoFace = Unit {0}

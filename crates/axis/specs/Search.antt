@@ -1,9 +1,8 @@
--- "The axis search answers one of three things: an axis apart with its separation, face A and face B with the edge pair, or no face of the wanted
--- side." Definitions only.
+-- "The axis search answers .. an axis apart with its separation, face A and face B with the edge pair": one of these two, since request k showed that
+-- on accepted input each side has a face (proofs/Always.antt). Definitions only.
 use Prim.Native.Nat.{ℕ, _/_}
-use mathlib.Core.Bool.{Bool, true, false, cond, not}
+use mathlib.Core.Bool.{Bool, true, false, cond}
 use mathlib.Core.List.{List}
-use lib.Ieee as Ieee
 use lib.Ieee.{Float}
 use Rattle.vector.specs.declared.Transform.{Transform}
 use Rattle.rotation.specs.Rotation.{matrixOf, transposeOf}
@@ -12,7 +11,6 @@ use Rattle.axis_best.specs.declared.Lead.{Lead}
 use Rattle.axis_faces.specs.Faces.{faceSearchOf}
 use Rattle.axis_edges.specs.Edges.{edgeOfA, edgeOfB}
 use Rattle.axis_pairs.specs.All.{allPairs}
-use Rattle.axis.specs.declared.Wanted.{Wanted}
 use Rattle.axis.specs.declared.Axis.{Axis}
 use Rattle.axis.specs.declared.EdgeAxis.{EdgeAxis}
 use Rattle.axis.specs.declared.Search.{Search}
@@ -29,24 +27,13 @@ apartOf kind lead = Search.Apart (record { kind = kind; separation = lead .separ
 unfoldable pub edgeOf : Lead → EdgeAxis
 edgeOf lead = cond (lead .found) (EdgeAxis.Pair (axisOf lead)) EdgeAxis.None
 
--- "face A wins only if strictly above face B"
-unfoldable pub winnerOf : Lead → Lead → Lead
-winnerOf a b = cond (Ieee.lt (b .separation) (a .separation)) a b
-
--- no face of the wanted side
-unfoldable pub missingOf : Wanted → Lead → Lead → Bool
-missingOf Wanted.Winner a b = not (winnerOf a b .found)
-missingOf Wanted.FaceA a b = not (a .found)
-missingOf Wanted.FaceB a b = not (b .found)
-missingOf Wanted.Neither a b = false
-
-unfoldable pub foundOf : Wanted → Lead → Lead → Lead → Search
-foundOf wanted a b edge =
-    cond (missingOf wanted a b) Search.NoFace (Search.Found (record { «face_a» = axisOf a; «face_b» = axisOf b; edge = edgeOf edge }))
+-- both faces, and the pair of edges
+unfoldable pub foundOf : Lead → Lead → Lead → Search
+foundOf a b edge = Search.Found (record { «face_a» = axisOf a; «face_b» = axisOf b; edge = edgeOf edge })
 
 -- a stop among A's faces, B's faces or the pairs of edges, in this order; else what was found
-unfoldable pub searchAnswerOf : Wanted → Lead → Lead → Lead → Search
-searchAnswerOf wanted a b edge = cond (a .apart) (apartOf 2 a) (cond (b .apart) (apartOf 3 b) (cond (edge .apart) (apartOf 4 edge) (foundOf wanted a b edge)))
+unfoldable pub searchAnswerOf : Lead → Lead → Lead → Search
+searchAnswerOf a b edge = cond (a .apart) (apartOf 2 a) (cond (b .apart) (apartOf 3 b) (cond (edge .apart) (apartOf 4 edge) (foundOf a b edge)))
 
 -- the three searches
 unfoldable pub sideOfA : Bool → HullSize → List Float → HullSize → List Float → Transform → Lead
@@ -59,5 +46,5 @@ unfoldable pub pairsOf : Bool → HullSize → List Float → List ℕ → HullS
 pairsOf early s n l t m k x = allPairs early (edgeOfA s n l) (s .«half_edges» / 2) (edgeOfB (matrixOf (x .q)) (x .p) t m k) (t .«half_edges» / 2)
 
 -- hull A is (s, n, l), hull B is (t, m, k), and x places B in A's frame
-unfoldable pub searchOf : HullSize → List Float → List ℕ → HullSize → List Float → List ℕ → Transform → Bool → Wanted → Search
-searchOf s n l t m k x early wanted = searchAnswerOf wanted (sideOfA early s n t m x) (sideOfB early s n t m x) (pairsOf early s n l t m k x)
+unfoldable pub searchOf : HullSize → List Float → List ℕ → HullSize → List Float → List ℕ → Transform → Bool → Search
+searchOf s n l t m k x early = searchAnswerOf (sideOfA early s n t m x) (sideOfB early s n t m x) (pairsOf early s n l t m k x)

@@ -1,21 +1,14 @@
 // The axis search of separating_axis.rs and its answer: the faces of A, the faces of B, then the pairs of edges.
 ghost use mathlib.Core.Path.{_≡_};
+ghost use mathlib.Core.Bool.{true};
 ghost use Rattle.rotation.specs.Rotation.{matrixOf};
 ghost use Rattle.hull_limits.specs.Transform.{Placed};
 ghost use Rattle.hull.specs.Accepted.{Accepted};
-ghost use Rattle.axis.specs.Search.{axisOf, apartOf, edgeOf, winnerOf, missingOf, foundOf, sideOfA, sideOfB, pairsOf, searchOf};
+ghost use Rattle.axis.specs.Search.{axisOf, apartOf, edgeOf, foundOf, sideOfA, sideOfB, pairsOf, searchOf};
 use axis_best::Lead;
 use hull_links::HullSize;
 use vector::Transform;
 use vector::Vec3;
-
-// Which face the caller needs: of the side that wins, as the full search does, of A, of B, or none.
-pub enum Wanted {
-    Winner,
-    FaceA,
-    FaceB,
-    Neither,
-}
 
 // An axis in A's frame, from A to B: how far apart the hulls are along it, and the numbers of what it joins.
 #[repr(C)]
@@ -49,10 +42,11 @@ pub struct Found {
 pub enum Search {
     Apart(Apart),
     Found(Found),
-    NoFace,
 }
 
+// The axis that leads, where one does.
 fn axis_of(lead: Lead) -> Axis
+    requires { ⌜ lead .found ≡ true ⌝ }
     ensures { λ r. ⌜ r ≡ axisOf lead ⌝ }
 {
     let normal = lead.normal;
@@ -84,37 +78,11 @@ fn apart_along(kind: u8, lead: Lead) -> Search
     })
 }
 
-// Face A wins only if strictly above face B.
-fn winner(a: Lead, b: Lead) -> Lead
-    ensures { λ r. ⌜ r ≡ winnerOf a b ⌝ }
+// Nothing stopped the search. Each side has a face, since the first face of a side always takes the lead.
+fn found_along(a: Lead, b: Lead, edge: Lead) -> Search
+    requires { ⌜ (a .found ≡ true) × (b .found ≡ true) ⌝ }
+    ensures { λ r. ⌜ r ≡ foundOf a b edge ⌝ }
 {
-    if a.separation > b.separation {
-        return a;
-    }
-    b
-}
-
-// Whether the wanted side has no face.
-fn missing(wanted: Wanted, a: Lead, b: Lead) -> bool
-    ensures { λ r. ⌜ r ≡ missingOf wanted a b ⌝ }
-{
-    match wanted {
-        Wanted::Winner => {
-            let best = winner(a, b);
-            !best.found
-        }
-        Wanted::FaceA => !a.found,
-        Wanted::FaceB => !b.found,
-        Wanted::Neither => false,
-    }
-}
-
-fn found_for(wanted: Wanted, a: Lead, b: Lead, edge: Lead) -> Search
-    ensures { λ r. ⌜ r ≡ foundOf wanted a b edge ⌝ }
-{
-    if missing(wanted, a, b) {
-        return Search::NoFace;
-    }
     let face_a = axis_of(a);
     let face_b = axis_of(b);
     let edge = edge_axis(edge);
@@ -222,11 +190,10 @@ pub fn compute_separating_axis(
     size_b: HullSize,
     transform: Transform,
     early: bool,
-    wanted: Wanted,
 ) -> Search
     requires { ⌜ Accepted «size_a» (now «numbers_a») (now «links_a») × Accepted «size_b» (now «numbers_b») (now «links_b») × Placed transform ⌝ }
     ensures { λ r. ⌜ r ≡ searchOf «size_a» (now («numbers_a» .entry)) (now («links_a» .entry)) «size_b» (now («numbers_b» .entry))
-        (now («links_b» .entry)) transform early wanted ⌝ }
+        (now («links_b» .entry)) transform early ⌝ }
 {
     let r = rotation::make_matrix_from_quat(transform.q);
     let a = side_a(
@@ -271,5 +238,5 @@ pub fn compute_separating_axis(
     if edge.apart {
         return apart_along(4, edge);
     }
-    found_for(wanted, a, b, edge)
+    found_along(a, b, edge)
 }

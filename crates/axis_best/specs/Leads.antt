@@ -22,12 +22,14 @@ noneOf = record { found = false; apart = false; normal = zeroVec; separation = l
 unfoldable pub stopsOf : Bool → Float → Bool
 stopsOf early separation = cond early (Ieee.lt speculative separation) false
 
+-- the lead that a new best has
+abbrev pub newBest : Bool → Vec3 → Float → ℕ → ℕ → Lead
+newBest early normal separation a b =
+    record { found = true; apart = stopsOf early separation; normal = normal; separation = separation; «index_a» = a; «index_b» = b }
+
 -- a new best is strictly greater
 unfoldable pub betterOf : Bool → Vec3 → Float → ℕ → ℕ → Lead → Lead
-betterOf early normal separation a b lead =
-    cond (Ieee.lt (lead .separation) separation)
-    (record { found = true; apart = stopsOf early separation; normal = normal; separation = separation; «index_a» = a; «index_b» = b })
-    lead
+betterOf early normal separation a b lead = cond (Ieee.lt (lead .separation) separation) (newBest early normal separation a b) lead
 
 -- what the steps 0 to n - 1 make of a lead; a search that has stopped stays as it is
 unfoldable pub leadAfter : (ℕ → Lead → Lead) → Lead → ℕ → Lead

@@ -1,7 +1,7 @@
--- Every face has a finite separation, so the first is better than nothing, and the faces of a hull always give a best one. No proof of this crate
--- needs it: callers do. Assumes nothing.
-use mathlib.Core.Path.{_≡_, refl, ap, _∙_, subst}
-use mathlib.Core.Bool.{Bool, true}
+-- Every face has a finite separation, so the first becomes the best, and the faces of a hull always give a best one. The bounds are those of the
+-- largest unit. No proof of this crate needs it: callers do. Assumes nothing.
+use mathlib.Core.Path.{_≡_, refl, sym, ap, ap₂, _∙_, subst}
+use mathlib.Core.Bool.{Bool, true, cond}
 use mathlib.Core.List.{List}
 use Prim.Native.Nat.{ℕ, zero, suc, _-_, _<_}
 use native.Mathlib.Omega.{arith}
@@ -15,7 +15,7 @@ use Rattle.rotation.specs.Rotation.{Rows}
 use Rattle.hull_links.specs.declared.HullSize.{HullSize}
 use Rattle.hull.specs.Numbers.{boxOf, planeAt}
 use Rattle.axis_best.specs.declared.Lead.{Lead}
-use Rattle.axis_best.specs.Leads.{lowest, noneOf, betterOf, leadAfter}
+use Rattle.axis_best.specs.Leads.{lowest, noneOf, newBest, betterOf, leadAfter}
 use Rattle.axis_faces.specs.declared.Face.{Face}
 use Rattle.axis_faces.specs.Faces.{biasOf, directionOf, farthestVertexOf, faceOf, faceTakenOf, faceSearchWith, faceSearchOf}
 use Rattle.axis_faces.specs.Ready.{Facing, FacesReady}
@@ -49,18 +49,20 @@ above-minus-infinity (fin s m e) p = refl
 above-lowest : (x : Float) → T (finite x) → lt lowest x ≡ true
 above-lowest x p = ap (λ (z : Float). lt z x) lowest-is ∙ above-minus-infinity x p
 
-better-first : (early : Bool) (normal : Vec3) (x : Float) (a b : ℕ) → T (finite x) → betterOf early normal x a b noneOf .found ≡ true
+better-first : (early : Bool) (normal : Vec3) (x : Float) (a b : ℕ) → T (finite x) → betterOf early normal x a b noneOf ≡ newBest early normal x a b
 unfolding betterOf
-better-first early normal x a b p = simp (above-lowest x p)
+better-first early normal x a b p = ap (λ (z : Bool). cond z (newBest early normal x a b) noneOf) (above-lowest x p)
 
 better-keeps : (early : Bool) (normal : Vec3) (x : Float) (a b : ℕ) (lead : Lead) → lead .found ≡ true → betterOf early normal x a b lead .found ≡ true
 unfolding betterOf
 better-keeps early normal x a b lead p = picked (λ (l : Lead). l .found ≡ true) (lt (lead .separation) x) refl p
 
-taken-first : (early own : Bool) (face : Face) (f : ℕ) → T (finite (face .separation)) → faceTakenOf early own face f noneOf .found ≡ true
+-- face f as the first to be looked at
+taken-first : (early own : Bool) (face : Face) (f : ℕ) → T (finite (face .separation)) → faceTakenOf early own face f noneOf
+    ≡ cond own (newBest early (face .normal) (face .separation) f (face .vertex)) (newBest early (face .normal) (face .separation) (face .vertex) f)
 unfolding faceTakenOf
 taken-first early own face f p =
-    picked (λ (l : Lead). l .found ≡ true) own (better-first early (face .normal) (face .separation) f (face .vertex) p)
+    ap₂ (cond own) (better-first early (face .normal) (face .separation) f (face .vertex) p)
     (better-first early (face .normal) (face .separation) (face .vertex) f p)
 
 taken-keeps : (early own : Bool) (face : Face) (f : ℕ) (lead : Lead) → lead .found ≡ true → faceTakenOf early own face f lead .found ≡ true
@@ -79,16 +81,24 @@ found-after step p q (suc n) =
     picked (λ (l : Lead). l .found ≡ true) (before .apart) h (q (suc n) before h)
 
 module _ {turn : Rows} {position : Vec3} {s : HullSize} {n : List Float} {t : HullSize} {m : List Float} (F : Facing turn position s n t m) where
-  pub separation-finite : (own : Bool) (f : ℕ) → f < s .faces
-      → T (finite (faceOf own turn position s n t m (centerOf (boxOf m)) (extentsOf (boxOf m)) f .separation))
+  abbrev face : Bool → ℕ → Face
+  face own = faceOf own turn position s n t m (centerOf (boxOf m)) (extentsOf (boxOf m))
+
+  pub separation-finite : (own : Bool) (f : ℕ) → f < s .faces → T (finite (face own f .separation))
   separation-finite own = face-finite own (faces-ready F (boxOf m) _ _ refl refl refl)
 
+  -- the first face becomes the best
+  pub first-best : (early own : Bool) → let first = face own 0 in
+      faceTakenOf early own first 0 noneOf
+      ≡ cond own (newBest early (first .normal) (first .separation) 0 (first .vertex)) (newBest early (first .normal) (first .separation) (first .vertex) 0)
+  first-best early own = taken-first early own (face own 0) 0 (separation-finite own 0 (omega (arith, F .fit .f-low)))
+
+  -- so that a face is found
   pub found : (early own : Bool) → faceSearchOf early own turn position s n t m .found ≡ true
   unfolding faceSearchOf faceSearchWith
   found early own =
-      let face : ℕ → Face = faceOf own turn position s n t m (centerOf (boxOf m)) (extentsOf (boxOf m)) in
-      let step : ℕ → Lead → Lead = λ f. faceTakenOf early own (face f) f in
+      let is-found : Lead → Type 0 = λ l. l .found ≡ true in
+      let step : ℕ → Lead → Lead = λ f. faceTakenOf early own (face own f) f in
       let some : suc (s .faces - 1) ≡ s .faces = omega (arith, F .fit .f-low) in
-      subst (λ (k : ℕ). leadAfter step noneOf k .found ≡ true) some
-      (found-after step (taken-first early own (face 0) 0 (separation-finite own 0 (omega (arith, F .fit .f-low))))
-      (λ i. taken-keeps early own (face i) i) (s .faces - 1))
+      let first : is-found (step 0 noneOf) = subst is-found (sym (first-best early own)) (picked is-found own refl refl) in
+      subst (λ (k : ℕ). is-found (leadAfter step noneOf k)) some (found-after step first (λ i. taken-keeps early own (face own i) i) (s .faces - 1))

@@ -38,7 +38,7 @@ module _ (s : HullSize) (n : List Float) (l : List ℕ) (t : HullSize) (m : List
       (cond (eqb (cache .kind) 8) (answerOf cache (manualEdgeOf s n l t m k x cache))
       (answerOf cache (fullOf s n l t m k x)))))))
 
-  -- "capacity below 4 comes first and is accepted, with no points, the cache untouched, nothing else looked at. Then 1, 2, 3, 4, then 7, 5, 6 as the
+  -- "capacity below 4 comes first and is accepted, with no points, the cache untouched, nothing else looked at. Then 1, 2, 3, 4, then .. 5, 6 as the
   -- work meets them."
   unfoldable pub collideOf : ℤ → SatCache → Answer
   collideOf capacity cache =

@@ -16,7 +16,6 @@ use Rattle.axis.specs.declared.Axis.{Axis}
 use Rattle.axis.specs.declared.EdgeAxis.{EdgeAxis}
 use Rattle.axis.specs.declared.Found.{Found}
 use Rattle.axis.specs.declared.Search.{Search}
-use Rattle.axis.specs.declared.Wanted.{Wanted}
 use Rattle.axis.specs.Ranges.{EdgeInRange, InRange}
 use Rattle.axis.specs.Search.{searchOf}
 use Rattle.axis.proofs.Ranges.{in-range}
@@ -91,10 +90,10 @@ module _ (s : HullSize) (n : List Float) (l : List ℕ) (t : HullSize) (m : List
 
 -- ---- the numbers of what was found are in range
 module _ {s t : HullSize} {n m : List Float} {l k : List ℕ} (x : Transform) (a : Accepted s n l) (b : Accepted t m k) where
-  pub found-in : (early : Bool) (w : Wanted) (f : Found) → Search.Found f ≡ searchOf s n l t m k x early w
+  pub found-in : (early : Bool) (f : Found) → Search.Found f ≡ searchOf s n l t m k x early
       → (f .«face_a» .«index_a» < s .faces) × (f .«face_b» .«index_b» < t .faces) × EdgeInRange s t (f .edge)
   unfolding InRange
-  found-in early w f q = subst (InRange s t) (sym q) (in-range x a b early w)
+  found-in early f q = subst (InRange s t) (sym q) (in-range x a b early)
 
 pub pair-in : (s t : HullSize) (e : Axis) (edge : EdgeAxis) → edge ≡ EdgeAxis.Pair e → EdgeInRange s t edge → (e .«index_a» < s .«half_edges»)
     × (e .«index_b» < t .«half_edges»)

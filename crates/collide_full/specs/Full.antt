@@ -1,6 +1,6 @@
--- The full search: "cache and count cleared; the axis search answers one of three things .. Otherwise face A wins only if strictly above face B. The
--- edge contact is then tried if there is a pair and either no points stand or the edge separation is strictly above the cache's plus slop; it
--- replaces contact and cache only if it made its one point." Definitions only.
+-- The full search: "cache and count cleared; the axis search .. stops at the first new best strictly above speculative. Otherwise face A wins only if
+-- strictly above face B. The edge contact is then tried if there is a pair and either no points stand or the edge separation is strictly above the
+-- cache's plus slop; it replaces contact and cache only if it made its one point." Definitions only.
 use Prim.Native.Nat.{ℕ}
 use mathlib.Core.Bool.{Bool, true, false, cond}
 use mathlib.Core.List.{List}
@@ -16,11 +16,9 @@ use Rattle.axis.specs.declared.Axis.{Axis}
 use Rattle.axis.specs.declared.Apart.{Apart}
 use Rattle.axis.specs.declared.EdgeAxis.{EdgeAxis}
 use Rattle.axis.specs.declared.Search.{Search}
-use Rattle.axis.specs.declared.Wanted.{Wanted}
 use Rattle.axis.specs.Search.{searchOf}
-use Rattle.axis.specs.Meaning.{statusOf, cacheOf}
+use Rattle.axis.specs.Meaning.{cacheOf}
 use Rattle.collide_outcome.specs.declared.Built.{Built}
-use Rattle.collide_outcome.specs.Builds.{refusedAt}
 use Rattle.contacts.specs.Faces.{faceAOf, faceBOf}
 use Rattle.contacts.specs.EdgePairs.{edgeContactOf}
 
@@ -64,8 +62,7 @@ module _ (s : HullSize) (n : List Float) (l : List ℕ) (t : HullSize) (m : List
   unfoldable pub afterSearch : Search → Built
   afterSearch (Search.Apart a) = apartBuilt a
   afterSearch (Search.Found f) = foundContact (f .«face_a») (f .«face_b») (f .edge)
-  afterSearch Search.NoFace = refusedAt (statusOf Search.NoFace)
 
-  -- the full search wants the side that wins, and stops early
+  -- the full search stops early
   unfoldable pub fullOf : Built
-  fullOf = afterSearch (searchOf s n l t m k x true Wanted.Winner)
+  fullOf = afterSearch (searchOf s n l t m k x true)

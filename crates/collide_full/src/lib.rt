@@ -10,10 +10,8 @@ use axis::Apart;
 use axis::Axis;
 use axis::EdgeAxis;
 use axis::Search;
-use axis::Wanted;
 use axis::compute_separating_axis;
 use collide_outcome::Built;
-use collide_outcome::refused_at;
 use contacts::edge::build_edge_contact;
 use contacts::face::build_face_a_contact;
 use contacts::face::build_face_b_contact;
@@ -320,7 +318,6 @@ pub fn full_search(
         size_b,
         transform,
         true,
-        Wanted::Winner,
     ) {
         Search::Apart(apart) => apart_built(apart),
         Search::Found(found) => {
@@ -340,6 +337,5 @@ pub fn full_search(
                 edge,
             )
         }
-        Search::NoFace => refused_at(7),
     }
 }

@@ -9,11 +9,8 @@ use Rattle.manifold.specs.Records.{emptyContact, hitSet}
 use Rattle.hull_links.specs.declared.HullSize.{HullSize}
 use Rattle.axis.specs.declared.EdgeAxis.{EdgeAxis}
 use Rattle.axis.specs.declared.Search.{Search}
-use Rattle.axis.specs.declared.Wanted.{Wanted}
 use Rattle.axis.specs.Search.{searchOf}
-use Rattle.axis.specs.Meaning.{statusOf}
 use Rattle.collide_outcome.specs.declared.Built.{Built}
-use Rattle.collide_outcome.specs.Builds.{refusedAt}
 use Rattle.collide_full.specs.Full.{apartBuilt, pairContact, contactA, contactB}
 
 -- nothing built, and nothing but hit changed
@@ -26,12 +23,10 @@ module _ (s : HullSize) (n : List Float) (l : List ℕ) (t : HullSize) (m : List
   unfoldable pub afterFaceA : Search → Built
   afterFaceA (Search.Apart a) = apartBuilt a
   afterFaceA (Search.Found f) = contactA s n l t m k x (f .«face_a»)
-  afterFaceA Search.NoFace = refusedAt (statusOf Search.NoFace)
 
   unfoldable pub afterFaceB : Search → Built
   afterFaceB (Search.Apart a) = apartBuilt a
   afterFaceB (Search.Found f) = contactB s n l t m k x (f .«face_b»)
-  afterFaceB Search.NoFace = refusedAt (statusOf Search.NoFace)
 
   unfoldable pub pairOrNone : SatCache → EdgeAxis → Built
   pairOrNone cache (EdgeAxis.Pair e) = pairContact s n l t m k x e
@@ -40,14 +35,12 @@ module _ (s : HullSize) (n : List Float) (l : List ℕ) (t : HullSize) (m : List
   unfoldable pub afterEdge : SatCache → Search → Built
   afterEdge cache (Search.Apart a) = apartBuilt a
   afterEdge cache (Search.Found f) = pairOrNone cache (f .edge)
-  afterEdge cache Search.NoFace = refusedAt (statusOf Search.NoFace)
 
   unfoldable pub manualFaceAOf : Built
-  manualFaceAOf = afterFaceA (searchOf s n l t m k x false Wanted.FaceA)
+  manualFaceAOf = afterFaceA (searchOf s n l t m k x false)
 
   unfoldable pub manualFaceBOf : Built
-  manualFaceBOf = afterFaceB (searchOf s n l t m k x false Wanted.FaceB)
+  manualFaceBOf = afterFaceB (searchOf s n l t m k x false)
 
-  -- type 8 wants no face
   unfoldable pub manualEdgeOf : SatCache → Built
-  manualEdgeOf cache = afterEdge cache (searchOf s n l t m k x false Wanted.Neither)
+  manualEdgeOf cache = afterEdge cache (searchOf s n l t m k x false)

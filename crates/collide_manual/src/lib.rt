@@ -7,14 +7,12 @@ ghost use Rattle.axis.specs.Ranges.{EdgeInRange};
 ghost use Rattle.collide_manual.specs.Manual.{unchanged, pairOrNone, manualFaceAOf, manualFaceBOf, manualEdgeOf};
 use axis::EdgeAxis;
 use axis::Search;
-use axis::Wanted;
 use axis::compute_separating_axis;
 use collide_full::apart_built;
 use collide_full::contact_a;
 use collide_full::contact_b;
 use collide_full::pair_contact;
 use collide_outcome::Built;
-use collide_outcome::refused_at;
 use hull_links::HullSize;
 use manifold::SatCache;
 use manifold::records::empty_contact;
@@ -57,7 +55,6 @@ pub fn manual_face_a(
         size_b,
         transform,
         false,
-        Wanted::FaceA,
     ) {
         Search::Apart(apart) => apart_built(apart),
         Search::Found(found) => {
@@ -73,7 +70,6 @@ pub fn manual_face_a(
                 face,
             )
         }
-        Search::NoFace => refused_at(7),
     }
 }
 
@@ -100,7 +96,6 @@ pub fn manual_face_b(
         size_b,
         transform,
         false,
-        Wanted::FaceB,
     ) {
         Search::Apart(apart) => apart_built(apart),
         Search::Found(found) => {
@@ -116,7 +111,6 @@ pub fn manual_face_b(
                 face,
             )
         }
-        Search::NoFace => refused_at(7),
     }
 }
 
@@ -176,7 +170,6 @@ pub fn manual_edge(
         size_b,
         transform,
         false,
-        Wanted::Neither,
     ) {
         Search::Apart(apart) => apart_built(apart),
         Search::Found(found) => {
@@ -193,6 +186,5 @@ pub fn manual_edge(
                 edge,
             )
         }
-        Search::NoFace => refused_at(7),
     }
 }

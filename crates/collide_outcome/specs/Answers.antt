@@ -12,7 +12,7 @@ use Rattle.collide_outcome.specs.declared.Built.{Built}
 abbrev pub accepted : Contact → SatCache → Answer
 accepted contact cache = record { outcome = record { status = 0; contact = contact }; cache = cache }
 
--- "Refusals 1 to 7 return an empty contact and leave the cache's bits, hit included."
+-- "Refusals .. return an empty contact and leave the cache's bits, hit included."
 abbrev pub refusedOf : ℕ → SatCache → Answer
 refusedOf number cache = record { outcome = record { status = number; contact = emptyContact }; cache = cache }
 

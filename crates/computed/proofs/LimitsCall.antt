@@ -35,8 +35,8 @@ use Rattle.axis_edges.specs.Edges.{dotRight, differenceOf, sumOf, edgeOfA, turn
 use Rattle.axis_edges.specs.Edges.{axisAcrossOf, edgeSeparationOf}
 use Rattle.axis_edges.specs.Edges.{triedOf, edgePairOf, rowPairs}
 use Rattle.axis_pairs.specs.All.{allPairs}
-use Rattle.axis.specs.Search.{axisOf, apartOf, edgeOf, winnerOf, missingOf, foundOf, searchAnswerOf, sideOfA, sideOfB, pairsOf, searchOf}
-use Rattle.axis.specs.Meaning.{statusOf, cacheOf}
+use Rattle.axis.specs.Search.{axisOf, apartOf, edgeOf, foundOf, searchAnswerOf, sideOfA, sideOfB, pairsOf, searchOf}
+use Rattle.axis.specs.Meaning.{cacheOf}
 use Rattle.clip_cut.specs.Cut.{putOutOf, cutFrom, lastOf, cutOf}
 use Rattle.clip_incident.specs.Incident.{projectionOf, flatterOf, flattestFrom, flattestOf, lowerFaceOf, incidentFaceOf}
 use Rattle.clip.specs.Candidates.{taggedOf, cornerOf, builtOf, sidePlaneOf, cutOn, goesOn, cutRound, candidatesOf}
@@ -81,12 +81,15 @@ abbrev told : Answer → List ℕ
 told r =
     r .outcome .status ∷ r .outcome .contact .count ∷ r .cache .separation ∷ r .cache .kind ∷ r .cache .«index_a» ∷ r .cache .«index_b» ∷ r .cache .hit ∷ []
 
--- a hull of nothing; one vertex at the origin and no face; one vertex at the origin and the face z = 0
+-- a hull of nothing; one vertex at the origin and no face; the same with a padding lane at z = -1; one vertex at the origin and the face z = 0
 abbrev nothing : Sample
 nothing = record { size = sizes 0 0 0; bits = []; links = [] }
 
 abbrev point : Sample
 point = record { size = sizes 1 0 0; bits = replicate 18 0; links = 0 ∷ [] }
+
+abbrev padding : Sample
+padding = record { size = sizes 1 0 0; bits = replicate 15 0 ++ (0xbf80_0000 ∷ 0 ∷ 0 ∷ []); links = 0 ∷ [] }
 
 abbrev faced : Sample
 faced = record { size = sizes 1 0 1; bits = replicate 18 0 ++ (0 ∷ 0 ∷ 0x3f80_0000 ∷ 0 ∷ []); links = 0 ∷ 0 ∷ [] }
@@ -127,15 +130,15 @@ winner a b =
     (record { normal = vec 0 0 0; separation = float b; «index_a» = 0; «index_b» = 0 })
     .status
 
--- no points, and the cache: as it was but for hit; an axis apart of this type with separation 1; refusal 7, and the cache as it was
+-- no points, and the cache: as it was but for hit; an axis apart of this type with separation 1; refusal 5, and the cache as it was
 abbrev keptBut : ℕ → ℕ → List ℕ
 keptBut hit kind = 0 ∷ 0 ∷ 0x4000_0000 ∷ kind ∷ 0 ∷ 0 ∷ hit ∷ []
 
 abbrev apartBy : ℕ → List ℕ
 apartBy kind = 0 ∷ 0 ∷ 0x3f80_0000 ∷ kind ∷ 0 ∷ 0 ∷ 0 ∷ []
 
-abbrev refused7 : ℕ → List ℕ
-refused7 kind = 7 ∷ 0 ∷ 0x4000_0000 ∷ kind ∷ 0 ∷ 0 ∷ 1 ∷ []
+abbrev refused5 : ℕ → List ℕ
+refused5 kind = 5 ∷ 0 ∷ 0x4000_0000 ∷ kind ∷ 0 ∷ 0 ∷ 1 ∷ []
 
 -- two edges far apart, where each cached axis is a hit, and the full search stops at A's first face
 abbrev searches : ℕ → Row
@@ -166,12 +169,12 @@ table =
     ∷ row (called (pos 0)) (0 ∷ 0 ∷ 0x7f80_0001 ∷ 2 ∷ 9 ∷ 9 ∷ 1 ∷ [])
     ∷ row (called (negsuc 0)) (0 ∷ 0 ∷ 0x7f80_0001 ∷ 2 ∷ 9 ∷ 9 ∷ 1 ∷ [])
     ∷ row (called (negsuc 0x7fff_ffff)) (0 ∷ 0 ∷ 0x7f80_0001 ∷ 2 ∷ 9 ∷ 9 ∷ 1 ∷ [])
-    -- "Refusals 1 to 7 return an empty contact and leave the cache's bits, hit included."
+    -- "Refusals .. return an empty contact and leave the cache's bits, hit included."
     ∷ row (called (pos 4)) (1 ∷ 0 ∷ 0x7f80_0001 ∷ 2 ∷ 9 ∷ 9 ∷ 1 ∷ [])
     ∷ row (called (pos 0x7fff_ffff)) (1 ∷ 0 ∷ 0x7f80_0001 ∷ 2 ∷ 9 ∷ 9 ∷ 1 ∷ [])
     -- "Types 6, 7, 8: search without early stop, build that kind straight into the cache, done; 8 with no edge pair changes nothing but hit."
-    ∷ is (leaves faced point above 6) 0 ∷ row (worked point faced below 6) (refused7 6)
-    ∷ is (leaves point faced below 7) 0 ∷ row (worked faced point above 7) (refused7 7)
+    ∷ is (leaves faced point above 6) 0 ∷ row (worked faced padding here 6) (refused5 6)
+    ∷ is (leaves point faced below 7) 0 ∷ row (worked padding faced here 7) (refused5 7)
     ∷ row (worked faced point above 8) (keptBut 0 8) ∷ row (worked nothing nothing here 8) (keptBut 0 8)
     -- "Type 2 or 3: .. At or above speculative: hit 1, no points. .. Else full search."
     ∷ row (worked faced point above 2) (keptBut 1 2) ∷ is (leaves faced point here 2) 0
@@ -182,7 +185,7 @@ table =
     -- "Otherwise face A wins only if strictly above face B."
     ∷ is (winner 0x3f80_0001 0x3f80_0000) 5 ∷ is (winner 0x3f80_0000 0x3f80_0000) 0 ∷ is (winner 0x3f80_0000 0x3f80_0001) 0
     -- "With 1 to 4 passed, hit becomes 0": the full search leaves its own axis in the cache, and a refusal leaves all as it was
-    ∷ row (worked faced point above 0) (apartBy 2) ∷ row (worked point faced below 0) (apartBy 3) ∷ row (worked nothing nothing here 0) (refused7 0)
+    ∷ row (worked faced point above 0) (apartBy 2) ∷ row (worked point faced below 0) (apartBy 3) ∷ row (worked faced padding here 0) (refused5 0)
     -- "Types 1, 5 and 9 to 255 act as type 0: full search."
     ∷ searches 0 ∷ searches 1 ∷ searches 5 ∷ searches 9 ∷ searches 10 ∷ searches 127 ∷ searches 128 ∷ searches 254 ∷ searches 255
     ∷ []
@@ -195,8 +198,8 @@ unfolding isqrt pattern rootOf patternOf embedOf indexOf absOf minOf maxOf addOf
     fanRight h7 inside small moderate nearOne apart inBox planeRight endsApart transformRight finiteAt smallAt vertexInBox planeRightAt edgeLong h8
     brokenRule boxOf vertexAt planeAt supportAt stopsOf betterOf leadAfter supportValueOf groupOf splatOf leastLanes supportOf biasOf directionOf exactOf
     faceSeparationOf farthestVertexOf faceOf faceTakenOf faceSearchWith faceSearchOf dotRight differenceOf sumOf edgeOfA turnedNormal turnedPoint edgeOfB
-    passesOf parallelOf betweenOf axisAcrossOf edgeSeparationOf triedOf edgePairOf rowPairs allPairs axisOf apartOf edgeOf winnerOf missingOf foundOf
-    searchAnswerOf sideOfA sideOfB pairsOf searchOf statusOf cacheOf putOutOf cutFrom lastOf cutOf projectionOf flatterOf flattestFrom flattestOf
+    passesOf parallelOf betweenOf axisAcrossOf edgeSeparationOf triedOf edgePairOf rowPairs allPairs axisOf apartOf edgeOf foundOf
+    searchAnswerOf sideOfA sideOfB pairsOf searchOf cacheOf putOutOf cutFrom lastOf cutOf projectionOf flatterOf flattestFrom flattestOf
     lowerFaceOf incidentFaceOf taggedOf cornerOf builtOf sidePlaneOf cutOn goesOn cutRound candidatesOf leastSeparationOf touchingOf onFace faceAOf faceBOf
     answerOf nearOf servedOf firstHalf cacheRight refusalOf deepestBelowA separationFromA cachedFaceAOf deepestBelowB separationFromB cachedFaceBOf
     cachedEdgeOf ridgeOf carriedRidge crossOver wideOf crossesOf axisBetween apartBuilt contactA contactB winnerContact withEdge foundContact afterSearch

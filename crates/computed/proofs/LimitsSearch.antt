@@ -23,9 +23,7 @@ use Rattle.axis_row.specs.Sift.{failsLater}
 use Rattle.axis.specs.declared.Apart.{Apart}
 use Rattle.axis.specs.declared.Found.{Found}
 use Rattle.axis.specs.declared.Search.{Search}
-use Rattle.axis.specs.declared.Wanted.{Wanted}
-use Rattle.axis.specs.Search.{axisOf, apartOf, edgeOf, winnerOf, missingOf, foundOf, searchAnswerOf}
-use Rattle.axis.specs.Meaning.{statusOf}
+use Rattle.axis.specs.Search.{axisOf, apartOf, edgeOf, foundOf, searchAnswerOf}
 use Rattle.computed.proofs.Rows.{Row, is, yes, no, given, said, bits, vec, sizes}
 
 abbrev none : Vec3
@@ -55,11 +53,10 @@ rising = float 0x3ca3_d70a ∷ float 0x3ca3_d70b ∷ float 0x3f80_0000 ∷ []
 abbrev searched : Bool → Lead
 searched early = leadAfter (λ (i : ℕ) (lead : Lead). betterOf early none (getD rising i nan) i 0 lead) noneOf 3
 
--- the answer in one number: the type of an axis apart, 0 where faces are found, the refusal where none is
+-- the answer in one number: the type of an axis apart, 0 where faces are found
 abbrev told : Search → ℕ
 told (Search.Apart a) = a .kind
 told (Search.Found f) = 0
-told Search.NoFace = statusOf Search.NoFace
 
 -- eight vertices at the origin; four at x = -100000 and four at the origin; five vertices at the origin with three lanes of padding, which lie there too
 abbrev eight : List Float
@@ -114,24 +111,10 @@ table =
     ∷ no (alone 0x3ca3_d70a .apart) ∷ yes (alone 0x3ca3_d70a .found) ∷ yes (alone 0x3ca3_d70b .apart) ∷ no (second 0x7f7f_ffff .apart)
     ∷ is (searched true .«index_a») 1 ∷ is (searched false .«index_a») 2
     -- "an axis apart with its separation": a stop among A's faces, then B's, then the pairs
-    ∷ is (told (searchAnswerOf Wanted.Winner (alone 0x3f80_0000) (alone 0x4000_0000) (alone 0x4000_0000))) 2
-    ∷ is (told (searchAnswerOf Wanted.Winner first (alone 0x4000_0000) (alone 0x4000_0000))) 3
-    ∷ is (told (searchAnswerOf Wanted.Winner first first (alone 0x4000_0000))) 4
-    ∷ is (told (searchAnswerOf Wanted.Winner first first first)) 0
-    -- "or no face of the wanted side (the full search wants the side that wins below; type 8 wants none)";
-    -- "7: the full or manual search has no face of the wanted side"
-    ∷ is (told (searchAnswerOf Wanted.Winner noneOf noneOf first)) 7
-    ∷ is (told (searchAnswerOf Wanted.Winner first noneOf first)) 0
-    ∷ is (told (searchAnswerOf Wanted.Winner noneOf first first)) 0
-    ∷ is (told (searchAnswerOf Wanted.FaceA first noneOf first)) 0
-    ∷ is (told (searchAnswerOf Wanted.FaceA noneOf first first)) 7
-    ∷ is (told (searchAnswerOf Wanted.FaceB noneOf first first)) 0
-    ∷ is (told (searchAnswerOf Wanted.FaceB first noneOf first)) 7
-    ∷ is (told (searchAnswerOf Wanted.Neither noneOf noneOf noneOf)) 0
-    -- "face A wins only if strictly above face B"
-    ∷ is (winnerOf (second 0x3f80_0001) first .«index_a») 7
-    ∷ is (winnerOf (betterOf false none (float 0x3f80_0000) 7 9 noneOf) first .«index_a») 3
-    ∷ is (winnerOf first (second 0x3f80_0001) .«index_a») 7
+    ∷ is (told (searchAnswerOf (alone 0x3f80_0000) (alone 0x4000_0000) (alone 0x4000_0000))) 2
+    ∷ is (told (searchAnswerOf first (alone 0x4000_0000) (alone 0x4000_0000))) 3
+    ∷ is (told (searchAnswerOf first first (alone 0x4000_0000))) 4
+    ∷ is (told (searchAnswerOf first first first)) 0
     -- "its low seven bits replaced by the vertex number"
     ∷ is (bits (embedOf (float 0x3f80_007f) 0)) 0x3f80_0000 ∷ is (bits (embedOf (float 0x3f80_0080) 127)) 0x3f80_00ff
     ∷ is (indexOf (float 0x3f80_007f)) 127 ∷ is (indexOf (float 0x3f80_0080)) 0
@@ -166,6 +149,6 @@ table =
 pub limits : given table ≡ said table
 unfolding patternOf embedOf indexOf maxOf dotOf lengthSquaredOf fartherOf farthestOf supportVertexOf embedWOf leastOf leastWOf lesserOf minIndexOf vertexAt
     stopsOf betterOf leadAfter supportValueOf groupOf splatOf leastLanes supportOf dotRight passesOf parallelOf atLeastEps failsFirst failsLater axisOf
-    apartOf edgeOf winnerOf missingOf foundOf searchAnswerOf statusOf Ieee.size Ieee.ofBits toBits Ieee.lt Ieee.le Ieee.neg Ieee.sub Ieee.div Ieee.add
+    apartOf edgeOf foundOf searchAnswerOf Ieee.size Ieee.ofBits toBits Ieee.lt Ieee.le Ieee.neg Ieee.sub Ieee.div Ieee.add
     Ieee.mul
 limits = refl

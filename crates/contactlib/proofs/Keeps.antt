@@ -1,4 +1,4 @@
--- "Refusals 1 to 7 .. leave the cache's bits, hit included", and give an empty contact. Assumes nothing.
+-- "Refusals .. leave the cache's bits, hit included", and give an empty contact. Assumes nothing.
 use Prim.Native.Nat.{ℕ}
 use mathlib.Core.List.{List}
 use mathlib.Core.Path.{_≡_, refl}

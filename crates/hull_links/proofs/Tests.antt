@@ -6,7 +6,7 @@ use Prim.Native.Nat.{ℕ, zero, suc, _+_, _≤_, _<_}
 use native.Mathlib.Numerals.{add-one}
 use native.Mathlib.Omega.{arith}
 use lib.Dec.{eqb}
-use lib.ListN.{length}
+use lib.ListN.{length, getD}
 use borrow.Author.Tests.{eqb-true, eqb-false}
 use Rattle.hull_links.specs.Tests.{_&_, _or_, implies, all, firstBroken}
 
@@ -133,6 +133,13 @@ pub unbroken : (k : ℕ) (t : Bool) (tests : List Bool) → 0 < k → firstBroke
 unfolding firstBroken
 unbroken k true tests h q = (refl, q)
 unbroken k false tests h q = absurd (omega arith)
+
+pub each-unbroken : (k : ℕ) (tests : List Bool) → 0 < k → firstBroken k tests ≡ 0 → (i : ℕ) → getD tests i true ≡ true
+unfolding firstBroken
+each-unbroken k [] h q i = refl
+each-unbroken k (true ∷ tests) h q zero = refl
+each-unbroken k (true ∷ tests) h q (suc i) = each-unbroken (suc k) tests (omega arith) q i
+each-unbroken k (false ∷ tests) h q i = absurd (omega arith)
 
 -- a rule that is broken among the first tests is the first of all; where none of them is, the tests after them decide
 pub broken-early : (k : ℕ) (tests later : List Bool) → (firstBroken k tests ≡ 0 → ⊥) → firstBroken k tests ≡ firstBroken k (tests ++ later)

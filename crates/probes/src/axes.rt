@@ -3,20 +3,18 @@ ghost use mathlib.Core.Path.{_≡_};
 ghost use Rattle.hull_limits.specs.Transform.{Placed};
 ghost use Rattle.hull.specs.Accepted.{Accepted};
 ghost use Rattle.axis.specs.Search.{searchOf};
-ghost use Rattle.probes.specs.Axes.{zeroAxis, wantedOf, pairedOf, searchedOf};
+ghost use Rattle.probes.specs.Axes.{zeroAxis, pairedOf, searchedOf};
 use axis::Axis;
 use axis::EdgeAxis;
 use axis::Search;
-use axis::Wanted;
 use hull_links::HullSize;
 use vector::Transform;
 use vector::Vec3;
 
-// Case 0 is apart, with its kind, separation and numbers; 1 is found, with both faces and, where `pair` says so, the edge pair; 2 is no face. What a
-// case does not have is zero.
+// Apart, with its kind, separation and numbers, or both faces and, where `pair` says so, the edge pair. What a case does not have is zero.
 #[repr(C)]
 pub struct Searched {
-    pub case: u8,
+    pub apart: bool,
     pub kind: u8,
     pub pair: bool,
     pub separation: f32,
@@ -42,24 +40,12 @@ fn zero_axis() -> Axis
     }
 }
 
-// By the cache's type: 6 wants face A, 7 face B, 8 neither, any other number the side that wins.
-fn wanted_by(number: u8) -> Wanted
-    ensures { λ r. ⌜ r ≡ wantedOf number ⌝ }
-{
-    match number {
-        6 => Wanted::FaceA,
-        7 => Wanted::FaceB,
-        8 => Wanted::Neither,
-        _ => Wanted::Winner,
-    }
-}
-
 fn found_record(face_a: Axis, face_b: Axis, edge: EdgeAxis) -> Searched
     ensures { λ r. ⌜ r ≡ pairedOf «face_a» «face_b» edge ⌝ }
 {
     match edge {
         EdgeAxis::Pair(pair) => Searched {
-            case: 1,
+            apart: false,
             kind: 0,
             pair: true,
             separation: 0.0,
@@ -72,7 +58,7 @@ fn found_record(face_a: Axis, face_b: Axis, edge: EdgeAxis) -> Searched
         EdgeAxis::None => {
             let zero = zero_axis();
             Searched {
-                case: 1,
+                apart: false,
                 kind: 0,
                 pair: false,
                 separation: 0.0,
@@ -93,7 +79,7 @@ fn as_record(search: Search) -> Searched
         Search::Apart(apart) => {
             let zero = zero_axis();
             Searched {
-                case: 0,
+                apart: true,
                 kind: apart.kind,
                 pair: false,
                 separation: apart.separation,
@@ -110,20 +96,6 @@ fn as_record(search: Search) -> Searched
             let edge = axes.edge;
             found_record(face_a, face_b, edge)
         }
-        Search::NoFace => {
-            let zero = zero_axis();
-            Searched {
-                case: 2,
-                kind: 0,
-                pair: false,
-                separation: 0.0,
-                index_a: 0,
-                index_b: 0,
-                face_a: zero,
-                face_b: zero,
-                edge: zero,
-            }
-        }
     }
 }
 
@@ -137,11 +109,10 @@ pub extern "C" fn probe_compute_separating_axis(
     size_b: HullSize,
     transform: Transform,
     early: bool,
-    wanted: u8,
 ) -> Searched
     requires { ⌜ Accepted «size_a» (now «numbers_a») (now «links_a») × Accepted «size_b» (now «numbers_b») (now «links_b») × Placed transform ⌝ }
     ensures { λ r. ⌜ r ≡ searchedOf (searchOf «size_a» (now («numbers_a» .entry)) (now («links_a» .entry)) «size_b» (now («numbers_b» .entry))
-        (now («links_b» .entry)) transform early (wantedOf wanted)) ⌝ }
+        (now («links_b» .entry)) transform early) ⌝ }
 {
     as_record(axis::compute_separating_axis(
         numbers_a,
@@ -152,6 +123,5 @@ pub extern "C" fn probe_compute_separating_axis(
         size_b,
         transform,
         early,
-        wanted_by(wanted),
     ))
 }

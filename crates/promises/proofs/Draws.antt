@@ -207,19 +207,16 @@ module _ (s : HullSize) (n : List Float) (l : List ℕ) (t : HullSize) (m : List
   unfolding afterSearch apartBuilt
   after (Search.Apart a) = draws-none
   after (Search.Found f) = builds-found (f .«face_a») (f .«face_b») (f .edge)
-  after Search.NoFace = draws-none
 
   after-a : (search : Search) → Builds (afterFaceA s n l t m k x search)
   unfolding afterFaceA apartBuilt
   after-a (Search.Apart a) = draws-none
   after-a (Search.Found f) = builds-axis-a (f .«face_a»)
-  after-a Search.NoFace = draws-none
 
   after-b : (search : Search) → Builds (afterFaceB s n l t m k x search)
   unfolding afterFaceB apartBuilt
   after-b (Search.Apart a) = draws-none
   after-b (Search.Found f) = builds-axis-b (f .«face_b»)
-  after-b Search.NoFace = draws-none
 
   after-pair : (cache : SatCache) (edge : EdgeAxis) → Builds (pairOrNone s n l t m k x cache edge)
   unfolding pairOrNone unchanged
@@ -230,7 +227,6 @@ module _ (s : HullSize) (n : List Float) (l : List ℕ) (t : HullSize) (m : List
   unfolding afterEdge apartBuilt
   after-edge cache (Search.Apart a) = draws-none
   after-edge cache (Search.Found f) = after-pair cache (f .edge)
-  after-edge cache Search.NoFace = draws-none
 
   builds-full : Builds (fullOf s n l t m k x)
   unfolding fullOf

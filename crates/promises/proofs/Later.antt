@@ -1,4 +1,4 @@
--- The numbers that the work can meet: 5, 6 and 7 alone, and 7 not on accepted input. Assumes nothing.
+-- The numbers that the work can meet: 5 and 6 alone. Assumes nothing.
 use Prim.Native.Nat.{ℕ, zero, suc, _+_, _≤_, _<_}
 use mathlib.Core.Bool.{Bool, true, false, not}
 use mathlib.Core.List.{List, [], _∷_}
@@ -16,15 +16,9 @@ use Rattle.manifold.specs.declared.SatCache.{SatCache}
 use Rattle.manifold.specs.Limits.{speculative}
 use Rattle.hull_links.specs.declared.HullSize.{HullSize}
 use Rattle.hull_links.specs.Tests.{firstBroken}
-use Rattle.hull_limits.specs.Transform.{Placed}
-use Rattle.hull.specs.Accepted.{Accepted}
 use Rattle.clip.specs.Candidates.{candidatesOf}
 use Rattle.axis.specs.declared.Axis.{Axis}
 use Rattle.axis.specs.declared.Search.{Search}
-use Rattle.axis.specs.declared.Wanted.{Wanted}
-use Rattle.axis.specs.Search.{searchOf}
-use Rattle.axis.specs.Meaning.{statusOf}
-use Rattle.axis.proofs.Always.{never-no-face}
 use Rattle.collide_cached.specs.Again.{separationFromA, separationFromB, cachedFaceAOf, cachedFaceBOf, cachedEdgeOf}
 use Rattle.promises.specs.Numbers.{firstGiven, faceMeets, meetsOnA, meetsOnB, axisMeetsA, axisMeetsB, winnerMeets, searchMeetsA, searchMeetsB}
 use Rattle.promises.specs.Numbers.{fullMeets, cachedMeetsA, cachedMeetsB, workMeets}
@@ -35,6 +29,12 @@ unfolding firstBroken
 at-least k [] h = absurd (h refl)
 at-least k (true ∷ tests) h = let later : suc k ≤ firstBroken (suc k) tests = at-least (suc k) tests h in omega (arith, later)
 at-least k (false ∷ tests) h = omega arith
+
+pub at-most : (k : ℕ) (tests : List Bool) → firstBroken k tests ≤ k + length tests
+unfolding firstBroken
+at-most k [] = omega arith
+at-most k (true ∷ tests) = let later : firstBroken (suc k) tests ≤ suc k + length tests = at-most (suc k) tests in omega (arith, later)
+at-most k (false ∷ tests) = omega arith
 
 -- the test at i fails, and those before it do not
 pub broken-at : (k i : ℕ) (tests : List Bool) → 0 < k → firstBroken k tests ≡ k + i → (getD tests i true ≡ false)
@@ -54,7 +54,7 @@ broken-at k (suc i) (true ∷ tests) p q =
     before all zero h = refl
     before all (suc j) h = all j (omega (arith, h))
 
--- ---- what holds of 0, 5 and 6, and of the status of each search, holds of what the work meets
+-- ---- what holds of 0, 5 and 6 holds of what the work meets
 module _ (P : ℕ → Type 0) (at-0 : P 0) (at-5 : P 5) (at-6 : P 6) where
   face-has : (other : HullSize) (v : ℕ) (candidates : List ClipVertex) → P (faceMeets other v candidates)
   unfolding faceMeets firstBroken
@@ -86,72 +86,50 @@ module _ (P : ℕ → Type 0) (at-0 : P 0) (at-5 : P 5) (at-6 : P 6) where
     unfolding axisMeetsB
     axis-b b = on-b _ _
 
-    winner-has : (search : Search) → P (statusOf search) → P (winnerMeets s n l t m k x search)
+    winner-has : (search : Search) → P (winnerMeets s n l t m k x search)
     unfolding winnerMeets
-    winner-has (Search.Apart a) p = at-0
-    winner-has (Search.Found f) p = picked P (Ieee.lt (f .«face_b» .separation) (f .«face_a» .separation)) (axis-a (f .«face_a»)) (axis-b (f .«face_b»))
-    winner-has Search.NoFace p = p
+    winner-has (Search.Apart a) = at-0
+    winner-has (Search.Found f) = picked P (Ieee.lt (f .«face_b» .separation) (f .«face_a» .separation)) (axis-a (f .«face_a»)) (axis-b (f .«face_b»))
 
-    search-a-has : (search : Search) → P (statusOf search) → P (searchMeetsA s n l t m k x search)
+    search-a-has : (search : Search) → P (searchMeetsA s n l t m k x search)
     unfolding searchMeetsA
-    search-a-has (Search.Apart a) p = at-0
-    search-a-has (Search.Found f) p = axis-a (f .«face_a»)
-    search-a-has Search.NoFace p = p
+    search-a-has (Search.Apart a) = at-0
+    search-a-has (Search.Found f) = axis-a (f .«face_a»)
 
-    search-b-has : (search : Search) → P (statusOf search) → P (searchMeetsB s n l t m k x search)
+    search-b-has : (search : Search) → P (searchMeetsB s n l t m k x search)
     unfolding searchMeetsB
-    search-b-has (Search.Apart a) p = at-0
-    search-b-has (Search.Found f) p = axis-b (f .«face_b»)
-    search-b-has Search.NoFace p = p
+    search-b-has (Search.Apart a) = at-0
+    search-b-has (Search.Found f) = axis-b (f .«face_b»)
 
-    module _ (seen : (early : Bool) (w : Wanted) → P (statusOf (searchOf s n l t m k x early w))) where
-      full-has : P (fullMeets s n l t m k x)
-      unfolding fullMeets
-      full-has = winner-has _ (seen true Wanted.Winner)
+    full-has : P (fullMeets s n l t m k x)
+    unfolding fullMeets
+    full-has = winner-has _
 
-      cached-a-has : (f : ℕ) → P (cachedMeetsA s n l t m k x f)
-      unfolding cachedMeetsA
-      cached-a-has f = picked P (Ieee.le speculative (separationFromA s n t m x f)) at-0 (on-a f _)
+    cached-a-has : (f : ℕ) → P (cachedMeetsA s n l t m k x f)
+    unfolding cachedMeetsA
+    cached-a-has f = picked P (Ieee.le speculative (separationFromA s n t m x f)) at-0 (on-a f _)
 
-      cached-b-has : (f : ℕ) → P (cachedMeetsB s n l t m k x f)
-      unfolding cachedMeetsB
-      cached-b-has f = picked P (Ieee.le speculative (separationFromB s n t m x f)) at-0 (on-b f _)
+    cached-b-has : (f : ℕ) → P (cachedMeetsB s n l t m k x f)
+    unfolding cachedMeetsB
+    cached-b-has f = picked P (Ieee.le speculative (separationFromB s n t m x f)) at-0 (on-b f _)
 
-      work-has : (cache : SatCache) → P (workMeets s n l t m k x cache)
-      unfolding workMeets
-      work-has cache =
-          picked P (eqb (cache .kind) 2) (first-has _ _ (cached-a-has (cache .«index_a»)) (picked P (cachedFaceAOf s n l t m k x cache .hit) at-0 full-has))
-          (picked P (eqb (cache .kind) 3) (first-has _ _ (cached-b-has (cache .«index_b»)) (picked P (cachedFaceBOf s n l t m k x cache .hit) at-0 full-has))
-          (picked P (eqb (cache .kind) 4) (picked P (cachedEdgeOf s n l t m k x cache .hit) at-0 full-has)
-          (picked P (eqb (cache .kind) 6) (search-a-has _ (seen false Wanted.FaceA))
-          (picked P (eqb (cache .kind) 7) (search-b-has _ (seen false Wanted.FaceB))
-          (picked P (eqb (cache .kind) 8) (seen false Wanted.Neither) full-has)))))
+    work-has : (cache : SatCache) → P (workMeets s n l t m k x cache)
+    unfolding workMeets
+    work-has cache =
+        picked P (eqb (cache .kind) 2) (first-has _ _ (cached-a-has (cache .«index_a»)) (picked P (cachedFaceAOf s n l t m k x cache .hit) at-0 full-has))
+        (picked P (eqb (cache .kind) 3) (first-has _ _ (cached-b-has (cache .«index_b»)) (picked P (cachedFaceBOf s n l t m k x cache .hit) at-0 full-has))
+        (picked P (eqb (cache .kind) 4) (picked P (cachedEdgeOf s n l t m k x cache .hit) at-0 full-has)
+        (picked P (eqb (cache .kind) 6) (search-a-has _)
+        (picked P (eqb (cache .kind) 7) (search-b-has _)
+        (picked P (eqb (cache .kind) 8) at-0 full-has)))))
 
--- ---- above 4 where not 0
+-- ---- above 4 where not 0, and at most 6
 abbrev Late : ℕ → Type 0
 Late number = (number ≡ 0 → ⊥) → 4 < number
 
-search-late : (search : Search) → Late (statusOf search)
-unfolding statusOf
-search-late (Search.Apart a) h = absurd (h refl)
-search-late (Search.Found f) h = absurd (h refl)
-search-late Search.NoFace h = omega arith
+module _ (s : HullSize) (n : List Float) (l : List ℕ) (t : HullSize) (m : List Float) (k : List ℕ) (x : Transform) (cache : SatCache) where
+  pub work-late : Late (workMeets s n l t m k x cache)
+  work-late = work-has Late (λ h. absurd (h refl)) (λ h. omega arith) (λ h. omega arith) s n l t m k x cache
 
-pub work-late : (s : HullSize) (n : List Float) (l : List ℕ) (t : HullSize) (m : List Float) (k : List ℕ) (x : Transform) (cache : SatCache)
-    → Late (workMeets s n l t m k x cache)
-work-late s n l t m k x cache = work-has Late (λ h. absurd (h refl)) (λ h. omega arith) (λ h. omega arith) s n l t m k x (λ early w. search-late _) cache
-
--- ---- not 7 on accepted input
-Not7 : ℕ → Type 0
-Not7 number = number ≡ 7 → ⊥
-
-none-is-not-7 : (number : ℕ) → number ≡ 0 → Not7 number
-unfolding Not7
-none-is-not-7 number p q = absurd (omega (arith, p, q))
-
-pub work-not-7 : {s t : HullSize} {n m : List Float} {l k : List ℕ} (x : Transform) → Accepted s n l → Accepted t m k → Placed x → (cache : SatCache)
-    → workMeets s n l t m k x cache ≡ 7 → ⊥
-unfolding Not7
-work-not-7 {s} {t} {n} {m} {l} {k} x a b p cache =
-    work-has Not7 (λ q. absurd (omega (arith, q))) (λ q. absurd (omega (arith, q))) (λ q. absurd (omega (arith, q))) s n l t m k x
-    (λ early w. none-is-not-7 _ (never-no-face x a b p early w)) cache
+  pub work-up-to-6 : workMeets s n l t m k x cache ≤ 6
+  work-up-to-6 = work-has (λ number. number ≤ 6) (omega arith) (omega arith) (omega arith) s n l t m k x cache

@@ -5,3 +5,4 @@ pub mod Refusals
 pub mod Steps
 pub mod Rounds
 pub mod Points
+pub mod Separations

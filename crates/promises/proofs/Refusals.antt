@@ -1,15 +1,16 @@
 -- Demand 1, the refusals. "Input is refused exactly when it breaks a rule of document 01, never on the caller's word; a refusal gives its number and
 -- an empty contact, and the lent cache keeps every bit." Of every call, whatever is lent. Assumes nothing.
 use Prim.Native.Nat.{ℕ, _≤_, _<_}
-use mathlib.Core.Bool.{Bool, true, false, cond, false≢true}
+use mathlib.Core.Bool.{Bool, true, false, cond}
 use mathlib.Core.List.{List, [], _∷_}
-use mathlib.Core.Path.{_≡_, sym, ap, _∙_}
+use mathlib.Core.Path.{_≡_, sym, ap, subst, _∙_}
 use native.Mathlib.Omega.{arith}
 use lib.Dec.{eqb}
 use lib.IntN.{ℤ, pos}
 use lib.Signed.{ltZ}
 use lib.Ieee.{Float}
 use borrow.Author.Tests.{eqb-true, eqb-false, eq-eqb, ne-eqb}
+use Rattle.bounds.proofs.Laws.{picked}
 use Rattle.vector.specs.declared.Transform.{Transform}
 use Rattle.manifold.specs.declared.SatCache.{SatCache}
 use Rattle.manifold.specs.declared.Outcome.{Outcome}
@@ -24,10 +25,10 @@ use Rattle.collide_outcome.specs.Answers.{accepted}
 use Rattle.collide.specs.Call.{collideOf}
 use Rattle.contactlib.specs.Lent.{Called}
 use Rattle.contactlib.proofs.Keeps.{keeps-call}
-use Rattle.collide_refusals.proofs.Cases.{refuses-1, refuses-2, refuses-3, refuses-4, unrefused}
+use Rattle.collide_refusals.proofs.Cases.{refuses-1, refuses-2, refuses-3, refuses-4}
 use Rattle.promises.specs.Numbers.{Exactly, workMeets, numberOf}
 use Rattle.promises.proofs.Statuses.{call-status}
-use Rattle.promises.proofs.Later.{broken-at, work-late, work-not-7}
+use Rattle.promises.proofs.Later.{at-most, broken-at, work-late, work-up-to-6}
 use Rattle.promises.specs.Numbers.{firstGiven}
 
 -- hull A is (s, n, l), hull B is (t, m, k), and x places B in A's frame
@@ -133,7 +134,7 @@ module _ (s : HullSize) (n : List Float) (l : List ℕ) (t : HullSize) (m : List
         (λ wide q. let b = broken-at 1 3 tests (omega arith) q in
         (wide, eqb-true _ _ (b .1 0 (omega arith)), eqb-true _ _ (b .1 1 (omega arith)), b .1 2 (omega arith), b .0))
 
-    -- what passes 1 to 4 is accepted, or the work met a number: 5 or 6, by `workMeets`; 7 is never met
+    -- what passes 1 to 4 is accepted, or the work met a number: 5 or 6, by `workMeets`
     pub passed : Wide → early ≡ 0 → r .status ≡ workMeets s n l t m k x was
     unfolding numberOf firstGiven
     passed wide q = number ∙ rw (wide, eq-eqb _ _ q)
@@ -145,19 +146,17 @@ module _ (s : HullSize) (n : List Float) (l : List ℕ) (t : HullSize) (m : List
         cases (eqb early 0) (λ none. eqb-true _ _ none)
         (λ some. let is-early : r .status ≡ early = number ∙ rw (wide, some) in absurd (eqb-false _ _ some (sym is-early ∙ q)))
 
-    early-not-7 : early ≡ 7 → ⊥
+    early-low : early ≤ 5
     unfolding refusalOf
-    early-not-7 e = false≢true (sym (broken-at 1 6 tests (omega arith) e .0))
+    early-low = at-most 1 tests
 
-    pub never-7 : r .status ≡ 7 → ⊥
+    -- no number above 6 is given
+    pub up-to-6 : r .status ≤ 6
     unfolding numberOf firstGiven
-    never-7 q =
-        cases (ltZ capacity (pos 4))
-        (λ small. let none : r .status ≡ 0 = number ∙ rw small in absurd (omega (arith, none, q)))
-        (λ wide.
-        cases (eqb early 0)
-        (λ none. let u = unrefused s n l t m k x was (eqb-true _ _ none) in work-not-7 x (u .0) (u .1) (u .2) was (sym (passed wide (eqb-true _ _ none)) ∙ q))
-        (λ some. let is-early : r .status ≡ early = number ∙ rw (wide, some) in early-not-7 (sym is-early ∙ q)))
+    up-to-6 =
+        subst (λ (z : ℕ). z ≤ 6) (sym number)
+        (picked (λ (z : ℕ). z ≤ 6) (ltZ capacity (pos 4)) (omega arith)
+        (picked (λ (z : ℕ). z ≤ 6) (eqb early 0) (work-up-to-6 s n l t m k x was) (omega (arith, early-low))))
 
     -- a refusal gives an empty contact
     pub empty-contact : (r .status ≡ 0 → ⊥) → r .contact ≡ emptyContact

@@ -26,7 +26,6 @@ use Rattle.reduce_scores.specs.Images.{leastSeparationOf, touchingOf}
 use Rattle.axis.specs.declared.Axis.{Axis}
 use Rattle.axis.specs.declared.EdgeAxis.{EdgeAxis}
 use Rattle.axis.specs.declared.Search.{Search}
-use Rattle.axis.specs.Meaning.{statusOf}
 use Rattle.collide_outcome.specs.declared.Built.{Built}
 use Rattle.collide_outcome.specs.Builds.{touchedOf, refusedAt}
 use Rattle.contacts.specs.Faces.{onFace, faceAOf, faceBOf}
@@ -131,30 +130,26 @@ module _ (s : HullSize) (n : List Float) (l : List ℕ) (t : HullSize) (m : List
   unfolding afterSearch apartBuilt winnerMeets
   after-status (Search.Apart a) = refl
   after-status (Search.Found f) = status-found _ _ _ ∙ status-winner (f .«face_a») (f .«face_b»)
-  after-status Search.NoFace = refl
 
   after-a : (search : Search) → afterFaceA s n l t m k x search .status ≡ searchMeetsA s n l t m k x search
   unfolding afterFaceA apartBuilt searchMeetsA
   after-a (Search.Apart a) = refl
   after-a (Search.Found f) = status-axis-a (f .«face_a»)
-  after-a Search.NoFace = refl
 
   after-b : (search : Search) → afterFaceB s n l t m k x search .status ≡ searchMeetsB s n l t m k x search
   unfolding afterFaceB apartBuilt searchMeetsB
   after-b (Search.Apart a) = refl
   after-b (Search.Found f) = status-axis-b (f .«face_b»)
-  after-b Search.NoFace = refl
 
   fine-pair : (cache : SatCache) (edge : EdgeAxis) → Fine (pairOrNone s n l t m k x cache edge)
   unfolding pairOrNone unchanged
   fine-pair cache (EdgeAxis.Pair e) = status-pair e
   fine-pair cache EdgeAxis.None = refl
 
-  after-edge : (cache : SatCache) (search : Search) → afterEdge s n l t m k x cache search .status ≡ statusOf search
-  unfolding afterEdge apartBuilt statusOf
+  after-edge : (cache : SatCache) (search : Search) → Fine (afterEdge s n l t m k x cache search)
+  unfolding afterEdge apartBuilt
   after-edge cache (Search.Apart a) = refl
   after-edge cache (Search.Found f) = fine-pair cache (f .edge)
-  after-edge cache Search.NoFace = refl
 
   full-status : fullOf s n l t m k x .status ≡ fullMeets s n l t m k x
   unfolding fullOf fullMeets

@@ -21,7 +21,6 @@ use Rattle.manifold.specs.Records.{emptyContact, hitSet}
 use Rattle.hull_links.specs.declared.HullSize.{HullSize}
 use Rattle.axis.specs.declared.Apart.{Apart}
 use Rattle.axis.specs.declared.Search.{Search}
-use Rattle.axis.specs.declared.Wanted.{Wanted}
 use Rattle.axis.specs.Search.{searchOf}
 use Rattle.axis.specs.Meaning.{cacheOf}
 use Rattle.collide_outcome.specs.declared.Cached.{Cached}
@@ -56,7 +55,7 @@ module _ (s : HullSize) (n : List Float) (l : List ℕ) (t : HullSize) (m : List
   full-search p2 p3 p4 p6 p7 p8 = sym (call-worked s n l t m k x cache capacity wide right) ∙ sym (at-rest s n l t m k x cache p2 p3 p4 p6 p7 p8)
 
   -- an axis apart: no points, and the axis in the cache
-  pub apart-left : (a : Apart) → Search.Apart a ≡ searchOf s n l t m k x true Wanted.Winner → answerOf cache (fullOf s n l t m k x) ≡ accepted
+  pub apart-left : (a : Apart) → Search.Apart a ≡ searchOf s n l t m k x true → answerOf cache (fullOf s n l t m k x) ≡ accepted
       emptyContact (cacheOf a)
   unfolding fullOf afterSearch apartBuilt answerOf
   apart-left a e = ap (λ (z : Search). answerOf cache (afterSearch s n l t m k x z)) (sym e)

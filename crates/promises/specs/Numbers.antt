@@ -19,9 +19,7 @@ use Rattle.hull_links.specs.Tests.{firstBroken}
 use Rattle.clip.specs.Candidates.{candidatesOf}
 use Rattle.axis.specs.declared.Axis.{Axis}
 use Rattle.axis.specs.declared.Search.{Search}
-use Rattle.axis.specs.declared.Wanted.{Wanted}
 use Rattle.axis.specs.Search.{searchOf}
-use Rattle.axis.specs.Meaning.{statusOf}
 use Rattle.collide_cached.specs.Again.{deepestBelowA, deepestBelowB, separationFromA, separationFromB, cachedFaceAOf, cachedFaceBOf, cachedEdgeOf}
 use Rattle.collide_refusals.specs.Refusals.{refusalOf}
 
@@ -50,24 +48,21 @@ module _ (s : HullSize) (n : List Float) (l : List ℕ) (t : HullSize) (m : List
   unfoldable pub axisMeetsB : Axis → ℕ
   axisMeetsB b = meetsOnB (b .«index_b») (b .«index_a»)
 
-  -- "7: the full or manual search has no face of the wanted side"; else the face that is picked: the one that wins, face A, face B, or none
+  -- the face that a search picks: the one that wins, face A or face B; an axis apart meets nothing
   unfoldable pub winnerMeets : Search → ℕ
   winnerMeets (Search.Apart a) = 0
   winnerMeets (Search.Found f) = cond (Ieee.lt (f .«face_b» .separation) (f .«face_a» .separation)) (axisMeetsA (f .«face_a»)) (axisMeetsB (f .«face_b»))
-  winnerMeets Search.NoFace = statusOf Search.NoFace
 
   unfoldable pub searchMeetsA : Search → ℕ
   searchMeetsA (Search.Apart a) = 0
   searchMeetsA (Search.Found f) = axisMeetsA (f .«face_a»)
-  searchMeetsA Search.NoFace = statusOf Search.NoFace
 
   unfoldable pub searchMeetsB : Search → ℕ
   searchMeetsB (Search.Apart a) = 0
   searchMeetsB (Search.Found f) = axisMeetsB (f .«face_b»)
-  searchMeetsB Search.NoFace = statusOf Search.NoFace
 
   unfoldable pub fullMeets : ℕ
-  fullMeets = winnerMeets (searchOf s n l t m k x true Wanted.Winner)
+  fullMeets = winnerMeets (searchOf s n l t m k x true)
 
   -- the contact on a cached face that is not apart
   unfoldable pub cachedMeetsA : ℕ → ℕ
@@ -76,18 +71,19 @@ module _ (s : HullSize) (n : List Float) (l : List ℕ) (t : HullSize) (m : List
   unfoldable pub cachedMeetsB : ℕ → ℕ
   cachedMeetsB f = cond (Ieee.le speculative (separationFromB s n t m x f)) 0 (meetsOnB f (deepestBelowB s n t m x f))
 
-  -- "then 7, 5, 6 as the work meets them": the work of each type; where a cached axis does not serve, the full search follows
+  -- "then .. 5, 6 as the work meets them": the work of each type; where a cached axis does not serve, the full search follows; a pair of edges alone
+  -- meets neither
   unfoldable pub workMeets : SatCache → ℕ
   workMeets cache =
       cond (eqb (cache .kind) 2) (firstGiven (cachedMeetsA (cache .«index_a»)) (cond (cachedFaceAOf s n l t m k x cache .hit) 0 fullMeets))
       (cond (eqb (cache .kind) 3) (firstGiven (cachedMeetsB (cache .«index_b»)) (cond (cachedFaceBOf s n l t m k x cache .hit) 0 fullMeets))
       (cond (eqb (cache .kind) 4) (cond (cachedEdgeOf s n l t m k x cache .hit) 0 fullMeets)
-      (cond (eqb (cache .kind) 6) (searchMeetsA (searchOf s n l t m k x false Wanted.FaceA))
-      (cond (eqb (cache .kind) 7) (searchMeetsB (searchOf s n l t m k x false Wanted.FaceB))
-      (cond (eqb (cache .kind) 8) (statusOf (searchOf s n l t m k x false Wanted.Neither))
+      (cond (eqb (cache .kind) 6) (searchMeetsA (searchOf s n l t m k x false))
+      (cond (eqb (cache .kind) 7) (searchMeetsB (searchOf s n l t m k x false))
+      (cond (eqb (cache .kind) 8) 0
       fullMeets)))))
 
-  -- "capacity below 4 comes first and is accepted .. Then 1, 2, 3, 4, then 7, 5, 6": 0 is accepted
+  -- "capacity below 4 comes first and is accepted .. Then 1, 2, 3, 4, then .. 5, 6": 0 is accepted
   unfoldable pub numberOf : ℤ → SatCache → ℕ
   numberOf capacity cache = cond (ltZ capacity (pos 4)) 0 (firstGiven (refusalOf s n l t m k x cache) (workMeets cache))
 

@@ -10,6 +10,7 @@ pub mod hex;
 pub mod library;
 pub mod mix;
 pub mod program;
+pub mod requests;
 pub mod sorts;
 #[cfg(rust_text)]
 pub mod stored;

@@ -19,7 +19,7 @@ pub struct Mix {
     pairs: u64,
     faults: [u64; 5],
     /// Calls by their status.
-    statuses: [u64; 9],
+    statuses: [u64; 7],
     /// Refused hulls by the rule that is broken first.
     rules: [u64; 9],
     /// Capacities below 4.
@@ -87,7 +87,7 @@ impl Mix {
             .map(|(sort, &count)| (sort.name, count, if sort.only_lines { lines } else { 1 }))
             .collect();
         let [owner, not_hex, no_kind, length, too_long] = self.faults;
-        let [accepted, a, b, transform, cache, padding, cut, no_face, _] = self.statuses;
+        let [accepted, a, b, transform, cache, padding, cut] = self.statuses;
         let named = ["type 0", "1", "2", "3", "4", "5", "6", "7", "8", "9 to 255"];
         let types = |counts: &[u64; TYPES], least: [u64; TYPES]| {
             let all: [_; TYPES] = std::array::from_fn(|i| (named[i], counts[i], text * least[i]));
@@ -114,7 +114,6 @@ impl Mix {
             ("4", cache, 1),
             ("5", padding, text),
             ("6", cut, text),
-            ("7, which no input gives", no_face, 0),
             ("capacity below 4", self.without_work, 1),
             ("left out for want of the text", self.untold, 0),
         ]);

@@ -1,9 +1,9 @@
 //! The frames that are stored with the program, so that it can be held to their answers with no Rust at hand: document
-//! 01's own, then of each sort those that meet something new.
+//! 01's own, then of each sort those that meet something new, then document 02's examples.
 
 use crate::codec::{self, Asked, CACHE, CALL, COUNT, HIT, NEXT_CACHE, STATUS, TYPE};
 use crate::sorts::{marked, Frames};
-use crate::{wanted, Frame, LONGEST_LINE};
+use crate::{requests, wanted, Frame, LONGEST_LINE};
 use std::collections::{HashMap, HashSet};
 
 const SEED: u64 = 1;
@@ -55,6 +55,8 @@ fn frames() -> Vec<Frame> {
             }
         }
     }
+    let examples = requests::all().into_iter();
+    stored.extend(examples.map(|example| Frame::Bytes(example.frame)));
     // A frame that has an answer, so that a last line which is lost is seen.
     stored.push(Frame::Bytes(codec::root_frame(2f32.to_bits())));
     stored

@@ -18,8 +18,8 @@ pub struct Axis {
 #[derive(Debug, Clone, Copy)]
 #[repr(C)]
 pub struct Searched {
-    /// `APART`, `FOUND` or `NO_FACE`.
-    pub case: u8,
+    /// Whether the hulls are apart; else both faces were found.
+    pub apart: bool,
     /// Where apart: 2 along a face of A, 3 along a face of B, 4 along a pair of edges.
     pub kind: u8,
     /// Where found: whether there is an edge pair.
@@ -34,17 +34,6 @@ pub struct Searched {
     /// Where there is an edge pair.
     pub edge: Axis,
 }
-
-/// The cases of an answer: an axis apart, both faces, or no face of the wanted side.
-pub const APART: u8 = 0;
-pub const FOUND: u8 = 1;
-pub const NO_FACE: u8 = 2;
-
-/// The side whose face is wanted; any other number wants the side that wins, which is A only if its separation is
-/// strictly above B's.
-pub const WANT_FACE_A: u8 = 6;
-pub const WANT_FACE_B: u8 = 7;
-pub const WANT_NO_FACE: u8 = 8;
 
 mod linked {
     use super::*;
@@ -63,7 +52,6 @@ mod linked {
             size_b: HullSize,
             transform: Transform,
             early: bool,
-            wanted: u8,
         ) -> Searched;
     }
 }
@@ -86,13 +74,7 @@ impl Placed {
 /// The search of an axis between two hulls, B placed in A's frame. With `early` it stops at the first new best strictly
 /// above the speculative distance.
 #[inline]
-pub fn compute_separating_axis(
-    a: Accepted,
-    b: Accepted,
-    placed: Placed,
-    early: bool,
-    wanted: u8,
-) -> Searched {
+pub fn compute_separating_axis(a: Accepted, b: Accepted, placed: Placed, early: bool) -> Searched {
     unsafe {
         linked::probe_compute_separating_axis(
             a.numbers.as_ptr(),
@@ -107,7 +89,6 @@ pub fn compute_separating_axis(
             b.size,
             placed.0,
             early,
-            wanted,
         )
     }
 }

@@ -2,6 +2,7 @@
 
 use std::fmt;
 
+/// The number between the last two ended with the refusal that had it, and is not given to anything else.
 #[derive(Debug, Clone, Copy, PartialEq, Eq)]
 #[repr(u8)]
 pub enum Refusal {
@@ -11,27 +12,25 @@ pub enum Refusal {
     Cache = 4,
     PaddingWon = 5,
     CutFull = 6,
-    NoFace = 7,
     Owner = 8,
 }
 
 impl Refusal {
-    pub const ALL: [Refusal; 8] = [
+    pub const ALL: [Refusal; 7] = [
         Refusal::HullA,
         Refusal::HullB,
         Refusal::Transform,
         Refusal::Cache,
         Refusal::PaddingWon,
         Refusal::CutFull,
-        Refusal::NoFace,
         Refusal::Owner,
     ];
 
-    /// The refusal of this number; none where it is 0. No call has a status above 8.
+    /// The refusal of this number; none where it is 0. A call's status is at most 6, and a flip's is 0 or 8.
     #[inline]
     pub fn of_status(status: u8) -> Option<Refusal> {
-        let place = usize::from(status).checked_sub(1)?;
-        Refusal::ALL.get(place).copied()
+        let numbered = |refusal: &Refusal| refusal.number() == status;
+        Refusal::ALL.into_iter().find(numbered)
     }
 
     pub fn number(self) -> u8 {
@@ -49,7 +48,6 @@ impl Refusal {
             Refusal::Cache => "the cache names a face or an edge that its hull does not have",
             Refusal::PaddingWon => "a padding lane reaches farther than every vertex",
             Refusal::CutFull => "a cut would put out a 65th vertex",
-            Refusal::NoFace => "the search has no face of the wanted side",
             Refusal::Owner => "the pair to be flipped has an owner above 1",
         }
     }
@@ -66,7 +64,6 @@ impl Refusal {
             }
             Refusal::PaddingWon => "fill the padding with vertex 0",
             Refusal::CutFull => "give the two faces fewer sides",
-            Refusal::NoFace => "nothing: it is proved that no call gives it",
             Refusal::Owner => "an owner is 0 for hull A or 1 for hull B",
         }
     }

@@ -26,10 +26,10 @@ fn layouts() {
 
 #[test]
 fn refusals() {
-    assert_eq!(Refusal::of_status(0), None);
-    assert_eq!(Refusal::of_status(9), None);
-    for number in 1..=8 {
-        let refusal = Refusal::of_status(number).expect("a refusal");
+    for number in 0..=255 {
+        let refusal = Refusal::of_status(number);
+        assert_eq!(refusal.is_some(), matches!(number, 1..=6 | 8), "{number}");
+        let Some(refusal) = refusal else { continue };
         assert_eq!(refusal.number(), number);
         let words = refusal.to_string();
         assert!(words.starts_with(&format!("refusal {number}: ")), "{words}");

@@ -3,7 +3,7 @@
 use cases::{convert, same};
 use oracle::core::NULL_INDEX;
 use oracle::open::{AxisQuery, SeparatingAxis, SeparatingFeature};
-use probes::{Axis, Searched, Vec3, APART, FOUND, NO_FACE, WANT_FACE_A, WANT_FACE_B, WANT_NO_FACE};
+use probes::{Axis, Searched, Vec3};
 
 const ZERO: Axis = Axis {
     normal: Vec3 {
@@ -18,7 +18,7 @@ const ZERO: Axis = Axis {
 
 /// What no case fills.
 const NOTHING: Searched = Searched {
-    case: NO_FACE,
+    apart: false,
     kind: 0,
     pair: false,
     separation: 0.0,
@@ -29,8 +29,9 @@ const NOTHING: Searched = Searched {
     edge: ZERO,
 };
 
-/// Document 01's three cases: an axis apart, both faces with the edge pair, or no face of the wanted side.
-pub fn answer(query: &AxisQuery, wanted: u8) -> Searched {
+/// The two cases: an axis apart, or both faces with the edge pair. Panics where the text found no face of a side, which
+/// accepted input cannot give.
+pub fn answer(query: &AxisQuery) -> Searched {
     let (face_a, face_b) = (axis(&query.face_a), axis(&query.face_b));
     let edge = axis(&query.edge);
     let kind = query.separated_feature;
@@ -42,7 +43,7 @@ pub fn answer(query: &AxisQuery, wanted: u8) -> Searched {
     };
     if let Some(axis) = apart {
         return Searched {
-            case: APART,
+            apart: true,
             kind: kind as u8,
             separation: axis.separation,
             index_a: axis.index_a,
@@ -50,19 +51,11 @@ pub fn answer(query: &AxisQuery, wanted: u8) -> Searched {
             ..NOTHING
         };
     }
-    let a_wins = query.face_a.separation > query.face_b.separation;
-    let stands = match wanted {
-        WANT_FACE_A => is(&query.face_a),
-        WANT_FACE_B => is(&query.face_b),
-        WANT_NO_FACE => true,
-        _ if a_wins => is(&query.face_a),
-        _ => is(&query.face_b),
-    };
-    if !stands {
-        return NOTHING;
-    }
+    assert!(
+        is(&query.face_a) && is(&query.face_b),
+        "the text found no face of a side: {query:?}"
+    );
     Searched {
-        case: FOUND,
         pair: is(&query.edge),
         face_a,
         face_b,
@@ -86,7 +79,7 @@ fn axis(axis: &SeparatingAxis) -> Axis {
 
 /// Equal in every field, any NaN being equal to any other.
 pub fn same_answers(a: &Searched, b: &Searched) -> bool {
-    (a.case, a.kind, a.pair) == (b.case, b.kind, b.pair)
+    (a.apart, a.kind, a.pair) == (b.apart, b.kind, b.pair)
         && same(a.separation, b.separation)
         && (a.index_a, a.index_b) == (b.index_a, b.index_b)
         && same_axes(&a.face_a, &b.face_a)

@@ -1,7 +1,6 @@
 -- `full_search`: the case of the search's answer picks the definition's, and the numbers of what was found are in range.
 use mathlib.Core.Path.{sym, ap, _∙_}
 use borrow.Author.Needs.{needs}
-use Rattle.axis.specs.Meaning.{statusOf}
 use Rattle.collide_full.specs.Full.{afterSearch, fullOf}
 use Rattle.collide_full.proofs.Cases.{found-in}
 use Rattle.collide_full.proofs.full_search.Statement.{statement}
@@ -22,14 +21,8 @@ enum-known-found c = search needs
 found-contact-requires : tie.Need-found-contact-requires
 found-contact-requires c κs = let s = c .before .before .before .before .before .before .before .before .before .before in
     let search = c .before .before .before .before .before .compute-separating-axis in
-    let inside = found-in (s .args .transform) (s .pre .0) (s .pre .1) _ _ _ (sym (c .before .before .before .found .given .1) ∙ search .ensures) in
+    let inside = found-in (s .args .transform) (s .pre .0) (s .pre .1) _ _ (sym (c .before .before .before .found .given .1) ∙ search .ensures) in
     (s .pre .0, s .pre .1, inside .0, inside .1, inside .2)
-
-enum-told : tie.Need-enum-told
-enum-told c = search needs
-
-refused-at-requires : tie.Need-refused-at-requires
-refused-at-requires c κs = search needs
 
 returns : tie.Need-returns
 unfolding fullOf afterSearch
@@ -44,12 +37,6 @@ returns-2 c = let a = c .before .before .before .before .before .before .before 
     (a .links-b .now) (a .transform)) (sym (c .before .before .before .before .found .given .1)
     ∙ c .before .before .before .before .before .before .compute-separating-axis .ensures)
 
-returns-3 : tie.Need-returns-3
-unfolding fullOf afterSearch statusOf
-returns-3 c = let a = c .before .before .before .before .before .before .before .before .args in
-    c .refused-at .ensures ∙ ap (afterSearch (a .size-a) (a .numbers-a .now) (a .links-a .now) (a .size-b) (a .numbers-b .now) (a .links-b .now)
-    (a .transform)) (sym (c .before .enum-told .given .1) ∙ c .before .before .before .compute-separating-axis .ensures)
-
 pub full-search-spec : {M : Type 1} → statement M
 full-search-spec =
     tie.close
@@ -59,8 +46,5 @@ full-search-spec =
     apart-built-requires
     enum-known-found
     found-contact-requires
-    enum-told
-    refused-at-requires
     returns
-    returns-2
-    returns-3)
+    returns-2)

@@ -68,17 +68,19 @@ impl Work {
         search(&self.a, &self.b, self.transform, early)
     }
 
-    /// The refusal that the text's panic stands for: "7, 5, 6 as the work meets them", after a cached face.
+    /// The refusal that the text's panic stands for: "5, 6 as the work meets them", after a cached face. The text also
+    /// panics where it has no face of the side that it picks, which accepted input cannot give: there the run ends.
     fn panicked(&self, cache: SatCache) -> u8 {
         if self.again(cache).is_some_and(|a| a.end == End::Full) {
             return 6;
         }
         let query = self.search(!(6..=8).contains(&cache.kind));
         let (face, vertex, vertices) = self.picked(cache.kind, &query);
-        match (usize::try_from(face), usize::try_from(vertex)) {
-            (Ok(_), Ok(vertex)) if vertex < vertices => 6,
-            (Ok(_), Ok(_)) => 5,
-            _ => 7,
+        assert!(face >= 0, "the text has no face to pick: {query:?}");
+        if (vertex as usize) < vertices {
+            6
+        } else {
+            5
         }
     }
 

@@ -17,12 +17,6 @@ enum-known-search-2 c = search needs
 found-record-requires : tie.Need-found-record-requires
 found-record-requires c κs = search needs
 
-enum-told : tie.Need-enum-told
-enum-told c = search needs
-
-zero-axis-requires-2 : tie.Need-zero-axis-requires-2
-zero-axis-requires-2 c κs = search needs
-
 returns : tie.Need-returns
 unfolding searchedOf
 returns c = simp (c .zero-axis .ensures) (sym (ap searchedOf (c .before .before .search .given .1)))
@@ -30,10 +24,6 @@ returns c = simp (c .zero-axis .ensures) (sym (ap searchedOf (c .before .before 
 returns-2 : tie.Need-returns-2
 unfolding searchedOf
 returns-2 c = c .found-record .ensures ∙ sym (ap searchedOf (c .before .before .before .before .search2 .given .1))
-
-returns-3 : tie.Need-returns-3
-unfolding searchedOf
-returns-3 c = simp (c .zero-axis2 .ensures) (sym (ap searchedOf (c .before .enum-told .given .1)))
 
 pub as-record-spec : {M : Type 1} → statement M
 as-record-spec =
@@ -43,8 +33,5 @@ as-record-spec =
     zero-axis-requires
     enum-known-search-2
     found-record-requires
-    enum-told
-    zero-axis-requires-2
     returns
-    returns-2
-    returns-3)
+    returns-2)

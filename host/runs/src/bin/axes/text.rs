@@ -4,7 +4,7 @@ use cases::pairs::Pair;
 use cases::sorts::{acceptable, SORTS};
 use cases::{convert, met, one_in, Numbers, Tally};
 use oracle::open::{search, AxisQuery, SeparatingFeature};
-use probes::{Placed, WANT_FACE_A, WANT_FACE_B, WANT_NO_FACE};
+use probes::Placed;
 use runs::accepted;
 use runs::searches::{answer, same_answers};
 
@@ -28,7 +28,7 @@ pub fn run(n: &mut Numbers, count: usize) -> bool {
     for (name, make) in SORTS {
         let mut t = Tally::default();
         for _ in 0..count {
-            searches(&mut t, &mut m, &acceptable(make, n), n);
+            searches(&mut t, &mut m, &acceptable(make, n));
         }
         good &= t.report(&format!("axis searches, {name}"));
     }
@@ -48,23 +48,16 @@ pub fn run(n: &mut Numbers, count: usize) -> bool {
 }
 
 /// One pair of hulls, with the early stop and without.
-fn searches(t: &mut Tally, m: &mut Met, pair: &Pair, n: &mut Numbers) {
+fn searches(t: &mut Tally, m: &mut Met, pair: &Pair) {
     let (a, b) = (convert::hull(&pair.a), convert::hull(&pair.b));
     let (lent_a, lent_b) = (accepted(&pair.a), accepted(&pair.b));
     let placed = Placed::new(convert::our_transform(pair.transform));
     for early in [true, false] {
-        let wanted = match n.below(5) {
-            0 => WANT_FACE_A,
-            1 => WANT_FACE_B,
-            2 => WANT_NO_FACE,
-            3 => 0,
-            _ => n.below(256) as u8,
-        };
         let query = search(&a, &b, pair.transform, early);
-        let theirs = answer(&query, wanted);
-        let ours = probes::compute_separating_axis(lent_a, lent_b, placed, early, wanted);
+        let theirs = answer(&query);
+        let ours = probes::compute_separating_axis(lent_a, lent_b, placed, early);
         t.compare(same_answers(&ours, &theirs), || {
-            format!("early {early}, wanted {wanted}: {ours:?}, {theirs:?}: {pair:?}")
+            format!("early {early}: {ours:?}, {theirs:?}: {pair:?}")
         });
         m.add(pair, &query);
     }

@@ -1,6 +1,5 @@
-//! The axis search of settled logs beside the Rust text, with the early stop and the side that wins wanted. Every pair is
-//! searched once a batch, so that the line of the whole mix is the mean over its true shares. The hulls and transforms
-//! were judged before.
+//! The axis search of settled logs beside the Rust text, with the early stop. Every pair is searched once a batch, so
+//! that the line of the whole mix is the mean over its true shares. The hulls and transforms were judged before.
 
 use super::{batches, head, line_of, timed_calls};
 use cases::convert;
@@ -9,7 +8,7 @@ use cases::Numbers;
 use oracle::hull::HullData;
 use oracle::math_functions as reading;
 use oracle::open::{search, AxisQuery, SeparatingFeature};
-use probes::{Accepted, Placed, Searched, APART};
+use probes::{Accepted, Placed, Searched};
 use runs::accepted;
 use runs::searches::{answer, same_answers};
 
@@ -18,9 +17,6 @@ const PAIRS: usize = 2000;
 
 /// Fewer than elsewhere, since a batch is long.
 const BATCHES: usize = 100;
-
-/// Any number but those of one side.
-const THE_WINNER: u8 = 0;
 
 /// A pair in the records of both sides.
 struct Pair<'a> {
@@ -32,7 +28,7 @@ struct Pair<'a> {
 impl Pair<'_> {
     fn ours(&self) -> Searched {
         let (a, b, placed) = self.ours;
-        probes::compute_separating_axis(a, b, placed, true, THE_WINNER)
+        probes::compute_separating_axis(a, b, placed, true)
     }
 
     fn theirs(&self) -> AxisQuery {
@@ -61,7 +57,7 @@ pub fn run(n: &mut Numbers) {
         .collect();
     let answers: Vec<Searched> = pairs.iter().map(Pair::ours).collect();
     for (ours, pair) in answers.iter().zip(&pairs) {
-        let theirs = answer(&pair.theirs(), THE_WINNER);
+        let theirs = answer(&pair.theirs());
         assert!(same_answers(ours, &theirs), "{ours:?}, {theirs:?}");
     }
     head(&format!("axis search, {PAIRS} settled pairs"), "Rust text");
@@ -79,9 +75,8 @@ fn both(what: &str, pairs: &[&Pair]) {
         batches(BATCHES),
         what,
         || {
-            let (nanoseconds, apart) = timed_calls(pairs.len(), pairs, |pair| {
-                usize::from(pair.ours().case == APART)
-            });
+            let (nanoseconds, apart) =
+                timed_calls(pairs.len(), pairs, |pair| usize::from(pair.ours().apart));
             a += apart;
             nanoseconds
         },
@@ -100,7 +95,7 @@ fn both(what: &str, pairs: &[&Pair]) {
 /// One line: how often was timed, and how the pairs of the mix were answered.
 fn mix(answers: &[Searched]) {
     let apart = |kind: u8| {
-        let of_kind = answers.iter().filter(|s| s.case == APART && s.kind == kind);
+        let of_kind = answers.iter().filter(|s| s.apart && s.kind == kind);
         of_kind.count()
     };
     let (by_a, by_b, by_edges) = (apart(2), apart(3), apart(4));

@@ -19,7 +19,7 @@ pub struct Met {
     full: Full,
     faces: [ManualFace; 2],
     manual_edge: ManualEdge,
-    refused: [u64; 8],
+    refused: [u64; 7],
     refused_by_cached: u64,
     kept_nan: u64,
 }
@@ -70,14 +70,13 @@ impl Met {
             good &= face.report(name, count);
         }
         good &= self.manual_edge.report(count);
-        let [.., in_cache, padding, full, no_face] = self.refused;
+        let [.., in_cache, padding, full] = self.refused;
         let (often, few) = (one_in(2, count), one_in(50, count));
         good & met(&[
             ("refusal 4", in_cache, often),
             ("refusal 5", padding, few),
             ("refusal 6", full, few),
             ("by a cached face", self.refused_by_cached, few),
-            ("refusal 7, which no accepted input gives", no_face, 0),
             ("a NaN kept in the cache", self.kept_nan, often),
         ])
     }
