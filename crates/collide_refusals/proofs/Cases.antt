@@ -90,8 +90,5 @@ module _ (s : HullSize) (n : List Float) (l : List ℕ) (t : HullSize) (m : List
   pub unrefused : refusalOf s n l t m k x c ≡ 0 → Accepted s n l × Accepted t m k × Placed x × (cacheRight s t c ≡ true)
   unfolding refusalOf
   unrefused q =
-      let u1 = unbroken 1 _ _ (omega arith) q in
-      let u2 = unbroken 2 _ _ (omega arith) (u1 .1) in
-      let u3 = unbroken 3 _ _ (omega arith) (u2 .1) in
-      let u4 = unbroken 4 _ _ (omega arith) (u3 .1) in
-      (accepted s n l (eqb-true _ _ (u1 .0)), accepted t m k (eqb-true _ _ (u2 .0)), placed x (u3 .0), u4 .0)
+      let right = unbroken 1 _ (omega arith) q in
+      (accepted s n l (eqb-true _ _ (right 0)), accepted t m k (eqb-true _ _ (right 1)), placed x (right 2), right 3)

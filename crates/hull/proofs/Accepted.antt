@@ -12,7 +12,7 @@ use Rattle.bounds.proofs.Laws.{more}
 use Rattle.hull_links.specs.declared.HullSize.{HullSize}
 use Rattle.hull_links.specs.Links.{padded, planesFrom, origin}
 use Rattle.hull_links.specs.Rules.{h1, h2, h3, h4, h5, h6, h7, Linked}
-use Rattle.hull_links.proofs.Tests.{and-left, all-at, each-unbroken}
+use Rattle.hull_links.proofs.Tests.{and-left, all-at, unbroken}
 use Rattle.hull_links.proofs.Facts.{links-fit, numbers-fit, edge-in, vertex-edge-lt, face-edge-lt, face-edge-face, vertex-edge-origin, twin-even, twin-odd}
 use Rattle.hull_links.proofs.Rounds.{rounds}
 use Rattle.vector.specs.Bounded.{VecBelow}
@@ -49,7 +49,7 @@ module _ (s : HullSize) (n : List Float) (l : List ℕ) (p : Passed s n l) where
 module _ (s : HullSize) (n : List Float) (l : List ℕ) (q : brokenRule s n l ≡ 0) where
   rules-hold : (i : ℕ) → getD (h1 s n l ∷ h2 s l ∷ h3 s l ∷ h4 s l ∷ h5 s l ∷ h6 s l ∷ h7 s l ∷ h8 s n l ∷ []) i true ≡ true
   unfolding brokenRule
-  rules-hold = each-unbroken 1 _ (omega arith) q
+  rules-hold = unbroken 1 _ (omega arith) q
 
   pub numbers-passed : Passed s n l
   numbers-passed = passed s n l (rules-hold 7)

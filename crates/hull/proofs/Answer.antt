@@ -14,7 +14,7 @@ use Rattle.hull.specs.Rule8.{h8, brokenRule}
 -- H2 is asked for before the numbers are read by way of the links
 pub in-range : (s : HullSize) (l : List ℕ) → brokenLinks s l ≡ 0 → h2 s l ≡ true
 unfolding brokenLinks
-in-range s l z = unbroken 2 _ _ (omega arith) z .0
+in-range s l z = unbroken 2 _ (omega arith) z 0
 
 module _ (s : HullSize) (n : List Float) (l : List ℕ) where
   abbrev linkTests : List Bool

@@ -129,17 +129,12 @@ unfolding firstBroken
 none-broken k = refl
 
 -- where the answer is 0, each test is true
-pub unbroken : (k : ℕ) (t : Bool) (tests : List Bool) → 0 < k → firstBroken k (t ∷ tests) ≡ 0 → (t ≡ true) × (firstBroken (suc k) tests ≡ 0)
+pub unbroken : (k : ℕ) (tests : List Bool) → 0 < k → firstBroken k tests ≡ 0 → (i : ℕ) → getD tests i true ≡ true
 unfolding firstBroken
-unbroken k true tests h q = (refl, q)
-unbroken k false tests h q = absurd (omega arith)
-
-pub each-unbroken : (k : ℕ) (tests : List Bool) → 0 < k → firstBroken k tests ≡ 0 → (i : ℕ) → getD tests i true ≡ true
-unfolding firstBroken
-each-unbroken k [] h q i = refl
-each-unbroken k (true ∷ tests) h q zero = refl
-each-unbroken k (true ∷ tests) h q (suc i) = each-unbroken (suc k) tests (omega arith) q i
-each-unbroken k (false ∷ tests) h q i = absurd (omega arith)
+unbroken k [] h q i = refl
+unbroken k (true ∷ tests) h q zero = refl
+unbroken k (true ∷ tests) h q (suc i) = unbroken (suc k) tests (omega arith) q i
+unbroken k (false ∷ tests) h q i = absurd (omega arith)
 
 -- a rule that is broken among the first tests is the first of all; where none of them is, the tests after them decide
 pub broken-early : (k : ℕ) (tests later : List Bool) → (firstBroken k tests ≡ 0 → ⊥) → firstBroken k tests ≡ firstBroken k (tests ++ later)

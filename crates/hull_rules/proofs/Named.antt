@@ -27,11 +27,8 @@ module _ (s : HullSize) (l : List ℕ) where
   pub linked : LinksFit s l → brokenBeforeWalks s l ≡ 0 → Linked s l
   unfolding brokenBeforeWalks
   linked f q =
-      let a = unbroken 2 _ _ (omega arith) q in
-      let b = unbroken 3 _ _ (omega arith) (a .1) in
-      let d = unbroken 4 _ _ (omega arith) (b .1) in
-      let e = unbroken 5 _ _ (omega arith) (d .1) in
-      record { fits = f; r2 = a .0; r3 = b .0; r4 = d .0; r5 = e .0 }
+      let right = unbroken 2 _ (omega arith) q in
+      record { fits = f; r2 = right 0; r3 = right 1; r4 = right 2; r5 = right 3 }
 
   pub named-early : (brokenBeforeWalks s l ≡ 0 → ⊥) → brokenBeforeWalks s l ≡ brokenLinks s l
   unfolding brokenBeforeWalks brokenLinks

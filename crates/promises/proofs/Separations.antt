@@ -27,29 +27,22 @@ use Rattle.axis_best.specs.Leads.{leadAfter}
 use Rattle.axis_faces.specs.Ready.{Facing}
 use Rattle.axis_faces.proofs.Found.{separation-finite, first-best, found}
 use Rattle.axis.specs.Search.{sideOfA, sideOfB}
-use Rattle.promises.specs.Separations.{Unit, one, ten, hundred, thousand, smallIn, moderateIn, HullInside, TransformInside, FacesFound}
+use Rattle.promises.specs.Separations.{LengthUnit, one, ten, hundred, thousand, smallIn, moderateIn, HullInside, TransformInside, FacesFound}
 
 -- ---- the limits of the largest unit are below 2^22 and 2^23, and those of the other three lie inside
-coordinates-end : {unit : Float} → Unit unit → Below 22 (float 0x4580_0000 ⊗ unit)
+limits-below : {unit : Float} → LengthUnit unit → Below 22 (float 0x4580_0000 ⊗ unit) × Below 23 (float 0x4600_0000 ⊗ unit)
 unfolding mul ofBits
-coordinates-end one = constant 22 tt
-coordinates-end ten = constant 22 tt
-coordinates-end hundred = constant 22 tt
-coordinates-end thousand = largest-coordinate
+limits-below one = (constant 22 tt, constant 23 tt)
+limits-below ten = (constant 22 tt, constant 23 tt)
+limits-below hundred = (constant 22 tt, constant 23 tt)
+limits-below thousand = (largest-coordinate, largest-offset)
 
-offsets-end : {unit : Float} → Unit unit → Below 23 (float 0x4600_0000 ⊗ unit)
-unfolding mul ofBits
-offsets-end one = constant 23 tt
-offsets-end ten = constant 23 tt
-offsets-end hundred = constant 23 tt
-offsets-end thousand = largest-offset
-
-module _ {unit : Float} (u : Unit unit) where
+module _ {unit : Float} (u : LengthUnit unit) where
   small-below : {x : Float} → smallIn unit x ≡ true → Below 22 x
-  small-below q = inside-below (negated (coordinates-end u)) (coordinates-end u) q
+  small-below q = inside-below (negated (limits-below u .0)) (limits-below u .0) q
 
   moderate-below : {x : Float} → moderateIn unit x ≡ true → Below 23 x
-  moderate-below q = inside-below (negated (offsets-end u)) (offsets-end u) q
+  moderate-below q = inside-below (negated (limits-below u .1)) (limits-below u .1) q
 
   -- the faces of hull (s, n) against the vertices of hull (t, m)
   facing : {s t : HullSize} {n m : List Float} {x : Transform} {turn : Rows} → HullInside unit s n → HullInside unit t m → TransformInside unit x

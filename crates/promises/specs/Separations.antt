@@ -24,11 +24,11 @@ use Rattle.axis_faces.specs.Faces.{faceOf, faceTakenOf}
 use Rattle.axis.specs.Search.{sideOfA, sideOfB}
 
 -- ---- the units, and the limits that go by them
-pub data Unit : Float → Type 0 where
-  one : Unit (float 0x3f80_0000)
-  ten : Unit (float 0x4120_0000)
-  hundred : Unit (float 0x42c8_0000)
-  thousand : Unit (float 0x447a_0000)
+pub data LengthUnit : Float → Type 0 where
+  one : LengthUnit (float 0x3f80_0000)
+  ten : LengthUnit (float 0x4120_0000)
+  hundred : LengthUnit (float 0x42c8_0000)
+  thousand : LengthUnit (float 0x447a_0000)
 
 -- within 4096 times the unit either way, within 8192 times the unit either way
 abbrev pub smallIn : Float → Float → Bool

@@ -1,11 +1,10 @@
 //! Document 02's worked examples, a list for each request: the call in a frame, and what its answer must hold. The values
 //! were worked out by another writing of documents 01 and 02, not by the one here.
 
-use crate::codec::call_frame;
-use cases::calls::Call;
+use crate::sorts::marked::frame;
 use cases::shapes::solids::block;
 use cases::shapes::{Link, Shape};
-use records::{Quat, SatCache, Transform, Vec3};
+use records::SatCache;
 
 pub struct Example {
     pub words: &'static str,
@@ -39,20 +38,6 @@ fn cube(offset: f32, half: f32) -> Shape {
     cube
 }
 
-/// Not turned, capacity 4.
-fn call(a: &Shape, b: &Shape, [x, y, z]: [f32; 3], cache: SatCache) -> Vec<u8> {
-    call_frame(&Call {
-        capacity: 4,
-        a: a.lent(),
-        b: b.lent(),
-        transform: Transform {
-            p: Vec3 { x, y, z },
-            q: Quat::IDENTITY,
-        },
-        cache,
-    })
-}
-
 /// Request k: a face separation is a finite number, however far the planes and the hulls lie.
 fn finite_separations() -> [Example; 5] {
     const FAR: [f32; 3] = [4096.0; 3];
@@ -72,35 +57,35 @@ fn finite_separations() -> [Example; 5] {
     [
         Example {
             words: "k 1: cubes, x = 3",
-            frame: call(&plain, &plain, [3.0, 0.0, 0.0], SatCache::EMPTY),
+            frame: frame(4, &plain, &plain, [3.0, 0.0, 0.0], SatCache::EMPTY),
             status: 0,
             cache: face(2, 0x3f80_0000),
             count: 0,
         },
         Example {
             words: "k 2: cubes, x = 2, every offset of A 8192",
-            frame: call(&shifted, &plain, [2.0, 0.0, 0.0], SatCache::EMPTY),
+            frame: frame(4, &shifted, &plain, [2.0, 0.0, 0.0], SatCache::EMPTY),
             status: 0,
             cache: face(3, 0),
             count: 4,
         },
         Example {
             words: "k 3: every offset of A and of B 8192",
-            frame: call(&shifted, &shifted, [2.0, 0.0, 0.0], SatCache::EMPTY),
+            frame: frame(4, &shifted, &shifted, [2.0, 0.0, 0.0], SatCache::EMPTY),
             status: 0,
             cache: face(3, 0xc5ff_f800),
             count: 4,
         },
         Example {
             words: "k 4: the same at the far corner, the boxes as large as they may be",
-            frame: call(&boxed, &boxed, FAR, SatCache::EMPTY),
+            frame: frame(4, &boxed, &boxed, FAR, SatCache::EMPTY),
             status: 0,
             cache: SatCache::EMPTY,
             count: 0,
         },
         Example {
             words: "k 5: the same by a search for a face of A alone",
-            frame: call(&shifted, &shifted, FAR, only_face_a),
+            frame: frame(4, &shifted, &shifted, FAR, only_face_a),
             status: 0,
             cache: SatCache::EMPTY,
             count: 0,

@@ -44,7 +44,8 @@ pub fn all() -> Vec<Frame> {
     case.into_iter().chain(bytes.map(Frame::Bytes)).collect()
 }
 
-fn frame(capacity: i32, a: &Shape, b: &Shape, [x, y, z]: [f32; 3], cache: SatCache) -> Vec<u8> {
+/// A call; B is not turned.
+pub fn frame(capacity: i32, a: &Shape, b: &Shape, [x, y, z]: [f32; 3], cache: SatCache) -> Vec<u8> {
     call_frame(&Call {
         capacity,
         a: a.lent(),
