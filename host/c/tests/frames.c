@@ -331,6 +331,11 @@ int main(int count, char **words) {
         return 2;
     }
     if (contact_abi() != CONTACT_ABI) stop("the library has another ABI than the header", 0);
+    for (i = 0; i <= UINT8_MAX; i++) {
+        int given = i <= CONTACT_CUT_FULL || i == CONTACT_OWNER;
+        if ((contact_status_text((uint8_t)i) != NULL) != given) stop("words for a number that is never given, or none for one that is", 0);
+        if ((contact_status_remedy((uint8_t)i) != NULL) != given) stop("a remedy for a number that is never given, or none for one that is", 0);
+    }
     thread_itself = touched(nothing);
     while (line_taken(frames, frame, sizeof frame, &frame_bytes)) {
         number++;
