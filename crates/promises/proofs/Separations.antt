@@ -1,14 +1,13 @@
 -- Request k: every face separation is a finite number, and so the first face always becomes the best. In each of the four units, and so on accepted
 -- input, whose unit is 1. Assumes nothing.
 use Prim.Native.Nat.{ℕ, _<_}
-use mathlib.Core.Bool.{Bool, true, false}
+use mathlib.Core.Bool.{true, false}
 use mathlib.Core.List.{List}
 use mathlib.Core.Path.{_≡_, refl}
-use lib.Ieee.{Float, mul, ofBits, neg}
+use lib.Ieee.{Float, mul, ofBits}
 use Rattle.bounds.specs.Bound.{Below}
 use Rattle.bounds.proofs.Laws.{constant, negated, largest-coordinate, largest-offset}
 use Rattle.vector.specs.declared.Transform.{Transform}
-use Rattle.vector.specs.Bounded.{VecBelow}
 use Rattle.vector.specs.Rounded.{_⊗_, float}
 use Rattle.rotation.specs.Rotation.{Rows, matrixOf}
 use Rattle.rotation.specs.Bounded.{RowsBelow}
@@ -38,24 +37,24 @@ limits-below hundred = (constant 22 tt, constant 23 tt)
 limits-below thousand = (largest-coordinate, largest-offset)
 
 module _ {unit : Float} (u : LengthUnit unit) where
-  small-below : {x : Float} → smallIn unit x ≡ true → Below 22 x
-  small-below q = inside-below (negated (limits-below u .0)) (limits-below u .0) q
+  small-in-below : {x : Float} → smallIn unit x ≡ true → Below 22 x
+  small-in-below q = inside-below (negated (limits-below u .0)) (limits-below u .0) q
 
-  moderate-below : {x : Float} → moderateIn unit x ≡ true → Below 23 x
-  moderate-below q = inside-below (negated (limits-below u .1)) (limits-below u .1) q
+  moderate-in-below : {x : Float} → moderateIn unit x ≡ true → Below 23 x
+  moderate-in-below q = inside-below (negated (limits-below u .1)) (limits-below u .1) q
 
   -- the faces of hull (s, n) against the vertices of hull (t, m)
   facing : {s t : HullSize} {n m : List Float} {x : Transform} {turn : Rows} → HullInside unit s n → HullInside unit t m → TransformInside unit x
       → RowsBelow 5 turn → Facing turn (x .p) s n t m
   facing {s} {t} {n} {m} a b p r =
-      let below : (i : ℕ) → i < planesFrom t → Below 22 (numberAt m i) = λ i h. small-below (b .coordinates i h) in
+      let below : (i : ℕ) → i < planesFrom t → Below 22 (numberAt m i) = λ i h. small-in-below (b .coordinates i h) in
       record {
         fit = a .fit;
         other-fit = b .fit;
         turn-below = r;
-        position-below = record { on-x = small-below (p .on-x); on-y = small-below (p .on-y); on-z = small-below (p .on-z) };
+        position-below = record { on-x = small-in-below (p .on-x); on-y = small-in-below (p .on-y); on-z = small-in-below (p .on-z) };
         normals-below = λ f h. normal-below _ (a .normals f h);
-        offsets-below = λ f h. moderate-below (a .offsets f h);
+        offsets-below = λ f h. moderate-in-below (a .offsets f h);
         vertices-below = vertex-below t m below;
         lower-below = box-below t m below .0;
         upper-below = box-below t m below .1;

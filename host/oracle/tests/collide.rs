@@ -232,6 +232,8 @@ fn incident_face_and_its_polygon() {
     }
 }
 
+/// With a position that is no number no face becomes the best, and the text panics. Here that is refusal 3, and accepted
+/// input cannot lead there (docs/DIFFERENCES.md).
 #[test]
 fn no_face_panics() {
     let points = |x| oracle::quiet(move || collide(x, 4, &mut SatCache::default()).point_count);
