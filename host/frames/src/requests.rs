@@ -84,7 +84,7 @@ fn finite_separations() -> [Example; 5] {
             count: 0,
         },
         Example {
-            words: "k 5: the same by a search for a face of A alone",
+            words: "k 5: the same in plain boxes, by a search for a face of A alone",
             frame: frame(4, &shifted, &shifted, FAR, only_face_a),
             status: 0,
             cache: SatCache::EMPTY,
