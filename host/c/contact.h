@@ -29,13 +29,13 @@ extern "C" {
 
 /* The number of these records and functions. It goes up with every change of a record, of a function's parameters, or of
    what a number in them means. */
-#define CONTACT_ABI 1
+#define CONTACT_ABI 2
 
 /* The most points of a contact, and the least capacity with which a call does any work. */
 #define CONTACT_MAX_POINTS 4
 
 /* The most bytes of an answer to a frame. */
-#define CONTACT_LONGEST_ANSWER 103
+#define CONTACT_LONGEST_ANSWER 104
 
 /* Bytes of stack that a call needs at the most; contact_first_broken_rule needs less. */
 #define CONTACT_COLLIDE_STACK (80 * 1024)
@@ -83,21 +83,20 @@ static inline size_t contact_links_len(contact_size size) {
     return size.vertices + 4 * size.half_edges + size.faces;
 }
 
+/* 1 and 5 to 255 act as CONTACT_NOTHING. Of these 6, 7 and 8 are retired: saved runs still hold them, and an outcome says
+   that one was read (contact_outcome, retired). */
 enum contact_kind {
-    CONTACT_NOTHING = 0,     /* no axis: every axis is searched; so do 1, 5 and 9 to 255 */
-    CONTACT_FACE_OF_A = 2,   /* index_a: the face */
-    CONTACT_FACE_OF_B = 3,   /* index_b: the face */
-    CONTACT_EDGES = 4,       /* index_a, index_b: the even half-edge of each edge */
-    CONTACT_ONLY_FACE_A = 6, /* search for a face of A alone */
-    CONTACT_ONLY_FACE_B = 7, /* search for a face of B alone */
-    CONTACT_ONLY_EDGES = 8   /* search for a pair of edges alone */
+    CONTACT_NOTHING = 0,   /* no axis: every axis is searched */
+    CONTACT_FACE_OF_A = 2, /* index_a: the face */
+    CONTACT_FACE_OF_B = 3, /* index_b: the face */
+    CONTACT_EDGES = 4      /* index_a, index_b: the even half-edge of each edge */
 };
 
 /* The axis that the last call found. One for each pair of hulls, all zero before the first call; a call that is accepted
    leaves the next one in its place, one that is refused keeps every bit. */
 typedef struct {
     uint32_t separation; /* the bits of a float, in metres: contact_separation reads it */
-    uint8_t kind;        /* enum contact_kind */
+    uint8_t kind;        /* enum contact_kind, or any other number */
     uint8_t index_a;
     uint8_t index_b;
     uint8_t hit; /* 1 where the last call was served by the axis of the one before, else 0 */
@@ -146,6 +145,7 @@ enum contact_status {
 typedef struct {
     uint8_t status;           /* enum contact_status */
     contact_manifold contact; /* empty where the call was refused */
+    uint8_t retired;          /* 1: accepted, with a capacity of 4 or more, and the kind that was read is retired; else 0 */
 } contact_outcome;
 
 /* ---- the functions */

@@ -1,7 +1,7 @@
 -- On accepted hulls and an accepted transform every face has a finite separation, so the first face of a side takes the lead and a face of each side is
 -- found: the search has no answer for none. Assumes nothing.
 use Prim.Native.Nat.{ℕ}
-use mathlib.Core.Bool.{Bool, true, false}
+use mathlib.Core.Bool.{true, false}
 use mathlib.Core.List.{List}
 use mathlib.Core.Path.{_≡_, refl}
 use lib.Ieee.{Float}
@@ -14,10 +14,10 @@ use Rattle.axis.specs.Search.{sideOfA, sideOfB}
 use Rattle.axis.proofs.Ready.{facing-a, facing-b}
 
 module _ {s t : HullSize} {n m : List Float} {l k : List ℕ} (x : Transform) (a : Accepted s n l) (b : Accepted t m k) (placed : Placed x) where
-  pub found-a : (early : Bool) → sideOfA early s n t m x .found ≡ true
+  pub found-a : sideOfA s n t m x .found ≡ true
   unfolding sideOfA
-  found-a early = found (facing-a x a b placed _ refl) early true
+  found-a = found (facing-a x a b placed _ refl) true
 
-  pub found-b : (early : Bool) → sideOfB early s n t m x .found ≡ true
+  pub found-b : sideOfB s n t m x .found ≡ true
   unfolding sideOfB
-  found-b early = found (facing-b x a b placed _ refl) early false
+  found-b = found (facing-b x a b placed _ refl) false

@@ -1,9 +1,7 @@
--- What the search finds has numbers in range: its faces are faces of their hulls, its pair of edges half-edges. And a search without an early stop is
--- never apart. Assumes nothing.
+-- What the search finds has numbers in range: its faces are faces of their hulls, its pair of edges half-edges. Assumes nothing.
 use Prim.Native.Nat.{ℕ, _*_, _<_}
 use mathlib.Core.Bool.{Bool, true, false, cond}
 use mathlib.Core.List.{List}
-use mathlib.Core.Path.{_≡_, refl, sym, subst}
 use native.Mathlib.Omega.{arith}
 use lib.Ieee as Ieee
 use lib.Ieee.{Float}
@@ -14,37 +12,36 @@ use Rattle.rotation.specs.Rotation.{Rows}
 use Rattle.hull_links.specs.declared.HullSize.{HullSize}
 use Rattle.hull.specs.Accepted.{Accepted}
 use Rattle.axis_best.specs.declared.Lead.{Lead}
-use Rattle.axis_best.specs.Leads.{noneOf, newBest, betterOf, stopsOf}
+use Rattle.axis_best.specs.Leads.{noneOf, newBest, betterOf}
 use Rattle.axis_best.proofs.Searches.{holds}
 use Rattle.axis_faces.specs.Faces.{faceTakenOf, faceSearchWith, faceSearchOf}
 use Rattle.axis_edges.specs.declared.EdgeA.{EdgeA}
 use Rattle.axis_edges.specs.declared.EdgeB.{EdgeB}
 use Rattle.axis_edges.specs.Edges.{passesOf, parallelOf, triedOf, edgePairOf, rowPairs, dotRight}
 use Rattle.axis_pairs.specs.All.{allPairs}
-use Rattle.axis.specs.declared.Search.{Search}
 use Rattle.axis.specs.Ranges.{EdgeInRange, InRange}
 use Rattle.axis.specs.Search.{axisOf, apartOf, edgeOf, foundOf, searchAnswerOf, sideOfA, sideOfB, pairsOf, searchOf}
 
--- ---- what every new best keeps, where it holds of its numbers and of its stop
-module _ (P : Lead → Type 0) (early : Bool) where
+-- ---- what every new best keeps, where it holds of its numbers
+module _ (P : Lead → Type 0) where
   -- a new best, with its numbers
   abbrev New : ℕ → ℕ → Type 0
-  New a b = (normal : Vec3) (separation : Float) → P (newBest early normal separation a b)
+  New a b = (normal : Vec3) (separation : Float) → P (newBest normal separation a b)
 
-  better-keeps : (normal : Vec3) (separation : Float) (a b : ℕ) (lead : Lead) → New a b → P lead → P (betterOf early normal separation a b lead)
+  better-keeps : (normal : Vec3) (separation : Float) (a b : ℕ) (lead : Lead) → New a b → P lead → P (betterOf normal separation a b lead)
   unfolding betterOf
   better-keeps normal separation a b lead new p = picked P (Ieee.lt (lead .separation) separation) (new normal separation) p
 
   -- of the faces of one side; own says which of the two numbers is the face's
   side-keeps : (own : Bool) (turn : Rows) (position : Vec3) (s : HullSize) (n : List Float) (t : HullSize) (m : List Float) → P noneOf
-      → ((f v : ℕ) → f < s .faces → cond own (New f v) (New v f)) → P (faceSearchOf early own turn position s n t m)
+      → ((f v : ℕ) → f < s .faces → cond own (New f v) (New v f)) → P (faceSearchOf own turn position s n t m)
   unfolding faceSearchOf faceSearchWith faceTakenOf
   side-keeps true turn position s n t m none new =
       holds P _ noneOf (s .faces) none (λ f h lead p. better-keeps _ _ f _ lead (new f _ h) p)
   side-keeps false turn position s n t m none new =
       holds P _ noneOf (s .faces) none (λ f h lead p. better-keeps _ _ _ f lead (new f _ h) p)
 
-  pair-keeps : (a : EdgeA) (b : EdgeB) (i j : ℕ) (lead : Lead) → New (2 * i) (2 * j) → P lead → P (edgePairOf early a b i j lead)
+  pair-keeps : (a : EdgeA) (b : EdgeB) (i j : ℕ) (lead : Lead) → New (2 * i) (2 * j) → P lead → P (edgePairOf a b i j lead)
   unfolding edgePairOf triedOf
   pair-keeps a b i j lead new p =
       picked P
@@ -54,7 +51,7 @@ module _ (P : Lead → Type 0) (early : Bool) where
       (better-keeps _ _ (2 * i) (2 * j) lead new p))
       p
 
-  pairs-keep : (a : ℕ → EdgeA) (n : ℕ) (b : ℕ → EdgeB) (m : ℕ) → P noneOf → ((i j : ℕ) → i < n → j < m → New (2 * i) (2 * j)) → P (allPairs early a n b m)
+  pairs-keep : (a : ℕ → EdgeA) (n : ℕ) (b : ℕ → EdgeB) (m : ℕ) → P noneOf → ((i j : ℕ) → i < n → j < m → New (2 * i) (2 * j)) → P (allPairs a n b m)
   unfolding allPairs rowPairs
   pairs-keep a n b m none new =
       holds P _ noneOf m none (λ j h lead p. holds P _ lead n p (λ i g inner q. pair-keeps (a i) (b j) i j inner (new i j g h) q))
@@ -70,36 +67,13 @@ module _ (s t : HullSize) (a b e : Lead) (on-a : a .«index_a» < s .faces) (on-
       (picked (InRange s t) (e .apart) tt (on-a, on-b, picked (EdgeInRange s t) (e .found) on-edges tt)))
 
 module _ {s t : HullSize} {n m : List Float} {l k : List ℕ} (x : Transform) (a : Accepted s n l) (b : Accepted t m k) where
-  pub in-range : (early : Bool) → InRange s t (searchOf s n l t m k x early)
+  pub in-range : InRange s t (searchOf s n l t m k x)
   unfolding searchOf sideOfA sideOfB pairsOf
-  in-range early =
+  in-range =
       answer-in-range s t _ _ _
-      (side-keeps (λ (lead : Lead). lead .«index_a» < s .faces) early true _ (x .p) s n t m (omega (arith, a .numbers-fit .f-low))
+      (side-keeps (λ (lead : Lead). lead .«index_a» < s .faces) true _ (x .p) s n t m (omega (arith, a .numbers-fit .f-low))
       (λ f v h normal separation. h))
-      (side-keeps (λ (lead : Lead). lead .«index_b» < t .faces) early false _ (x .p) t m s n (omega (arith, b .numbers-fit .f-low))
+      (side-keeps (λ (lead : Lead). lead .«index_b» < t .faces) false _ (x .p) t m s n (omega (arith, b .numbers-fit .f-low))
       (λ f v h normal separation. h))
-      (pairs-keep (λ (lead : Lead). (lead .«index_a» < s .«half_edges») × (lead .«index_b» < t .«half_edges»)) early _ _ _ _
+      (pairs-keep (λ (lead : Lead). (lead .«index_a» < s .«half_edges») × (lead .«index_b» < t .«half_edges»)) _ _ _ _
       (omega (arith, a .links-fit .h-low), omega (arith, b .links-fit .h-low)) (λ i j g h normal separation. (omega (arith, g), omega (arith, h))))
-
--- ---- without an early stop
-unfoldable pub NotApart : Search → Type 0
-NotApart (Search.Apart a) = ⊥
-NotApart (Search.Found f) = Unit {0}
-
-passed-by : (P : Search → Type 0) (u : Bool) (x : Search) {y : Search} → u ≡ false → P y → P (cond u x y)
-passed-by P u x {y} q p = subst (λ (z : Bool). P (cond z x y)) (sym q) p
-
-not-apart : (a b e : Lead) → a .apart ≡ false → b .apart ≡ false → e .apart ≡ false → NotApart (searchAnswerOf a b e)
-unfolding searchAnswerOf foundOf NotApart
-not-apart a b e p q r = passed-by NotApart (a .apart) (apartOf 2 a) p
-    (passed-by NotApart (b .apart) (apartOf 3 b) q (passed-by NotApart (e .apart) (apartOf 4 e) r tt))
-
-pub never-apart : (s : HullSize) (n : List Float) (l : List ℕ) (t : HullSize) (m : List Float) (k : List ℕ) (x : Transform)
-    → NotApart (searchOf s n l t m k x false)
-unfolding searchOf sideOfA sideOfB pairsOf stopsOf
-never-apart s n l t m k x =
-    let going : Lead → Type 0 = λ lead. lead .apart ≡ false in
-    not-apart _ _ _
-    (side-keeps going false true _ (x .p) s n t m refl (λ f v h normal separation. refl))
-    (side-keeps going false false _ (x .p) t m s n refl (λ f v h normal separation. refl))
-    (pairs-keep going false _ _ _ _ refl (λ i j g h normal separation. refl))

@@ -1,7 +1,7 @@
 -- "The axis search answers .. an axis apart with its separation, face A and face B with the edge pair": one of these two, since request k showed that
 -- on accepted input each side has a face (proofs/Always.antt). Definitions only.
 use Prim.Native.Nat.{ℕ, _/_}
-use mathlib.Core.Bool.{Bool, true, false, cond}
+use mathlib.Core.Bool.{true, false, cond}
 use mathlib.Core.List.{List}
 use lib.Ieee.{Float}
 use Rattle.vector.specs.declared.Transform.{Transform}
@@ -36,15 +36,15 @@ unfoldable pub searchAnswerOf : Lead → Lead → Lead → Search
 searchAnswerOf a b edge = cond (a .apart) (apartOf 2 a) (cond (b .apart) (apartOf 3 b) (cond (edge .apart) (apartOf 4 edge) (foundOf a b edge)))
 
 -- the three searches
-unfoldable pub sideOfA : Bool → HullSize → List Float → HullSize → List Float → Transform → Lead
-sideOfA early s n t m x = faceSearchOf early true (transposeOf (matrixOf (x .q))) (x .p) s n t m
+unfoldable pub sideOfA : HullSize → List Float → HullSize → List Float → Transform → Lead
+sideOfA s n t m x = faceSearchOf true (transposeOf (matrixOf (x .q))) (x .p) s n t m
 
-unfoldable pub sideOfB : Bool → HullSize → List Float → HullSize → List Float → Transform → Lead
-sideOfB early s n t m x = faceSearchOf early false (matrixOf (x .q)) (x .p) t m s n
+unfoldable pub sideOfB : HullSize → List Float → HullSize → List Float → Transform → Lead
+sideOfB s n t m x = faceSearchOf false (matrixOf (x .q)) (x .p) t m s n
 
-unfoldable pub pairsOf : Bool → HullSize → List Float → List ℕ → HullSize → List Float → List ℕ → Transform → Lead
-pairsOf early s n l t m k x = allPairs early (edgeOfA s n l) (s .«half_edges» / 2) (edgeOfB (matrixOf (x .q)) (x .p) t m k) (t .«half_edges» / 2)
+unfoldable pub pairsOf : HullSize → List Float → List ℕ → HullSize → List Float → List ℕ → Transform → Lead
+pairsOf s n l t m k x = allPairs (edgeOfA s n l) (s .«half_edges» / 2) (edgeOfB (matrixOf (x .q)) (x .p) t m k) (t .«half_edges» / 2)
 
 -- hull A is (s, n, l), hull B is (t, m, k), and x places B in A's frame
-unfoldable pub searchOf : HullSize → List Float → List ℕ → HullSize → List Float → List ℕ → Transform → Bool → Search
-searchOf s n l t m k x early = searchAnswerOf (sideOfA early s n t m x) (sideOfB early s n t m x) (pairsOf early s n l t m k x)
+unfoldable pub searchOf : HullSize → List Float → List ℕ → HullSize → List Float → List ℕ → Transform → Search
+searchOf s n l t m k x = searchAnswerOf (sideOfA s n t m x) (sideOfB s n t m x) (pairsOf s n l t m k x)

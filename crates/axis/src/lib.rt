@@ -95,7 +95,6 @@ fn found_along(a: Lead, b: Lead, edge: Lead) -> Search
 
 // A's faces against B's vertices.
 fn side_a(
-    early: bool,
     numbers_a: &[f32],
     links_a: &[u8],
     size_a: HullSize,
@@ -107,11 +106,10 @@ fn side_a(
 ) -> Lead
     requires { ⌜ Accepted «size_a» (now «numbers_a») (now «links_a») × Accepted «size_b» (now «numbers_b») (now «links_b») × Placed transform
         × (r ≡ matrixOf (transform .q)) ⌝ }
-    ensures { λ x. ⌜ x ≡ sideOfA early «size_a» (now («numbers_a» .entry)) «size_b» (now («numbers_b» .entry)) transform ⌝ }
+    ensures { λ x. ⌜ x ≡ sideOfA «size_a» (now («numbers_a» .entry)) «size_b» (now («numbers_b» .entry)) transform ⌝ }
 {
     let inverse = rotation::transpose(r);
     axis_faces::search_faces(
-        early,
         true,
         inverse,
         transform.p,
@@ -124,7 +122,6 @@ fn side_a(
 
 // B's faces against A's vertices.
 fn side_b(
-    early: bool,
     numbers_a: &[f32],
     links_a: &[u8],
     size_a: HullSize,
@@ -136,23 +133,13 @@ fn side_b(
 ) -> Lead
     requires { ⌜ Accepted «size_a» (now «numbers_a») (now «links_a») × Accepted «size_b» (now «numbers_b») (now «links_b») × Placed transform
         × (r ≡ matrixOf (transform .q)) ⌝ }
-    ensures { λ x. ⌜ x ≡ sideOfB early «size_a» (now («numbers_a» .entry)) «size_b» (now («numbers_b» .entry)) transform ⌝ }
+    ensures { λ x. ⌜ x ≡ sideOfB «size_a» (now («numbers_a» .entry)) «size_b» (now («numbers_b» .entry)) transform ⌝ }
 {
-    axis_faces::search_faces(
-        early,
-        false,
-        r,
-        transform.p,
-        numbers_b,
-        size_b,
-        numbers_a,
-        size_a,
-    )
+    axis_faces::search_faces(false, r, transform.p, numbers_b, size_b, numbers_a, size_a)
 }
 
 // A's edges against B's.
 fn edge_pairs(
-    early: bool,
     numbers_a: &[f32],
     links_a: &[u8],
     size_a: HullSize,
@@ -163,11 +150,10 @@ fn edge_pairs(
     transform: Transform,
 ) -> Lead
     requires { ⌜ Accepted «size_a» (now «numbers_a») (now «links_a») × Accepted «size_b» (now «numbers_b») (now «links_b») × (r ≡ matrixOf (transform .q)) ⌝ }
-    ensures { λ x. ⌜ x ≡ pairsOf early «size_a» (now («numbers_a» .entry)) (now («links_a» .entry)) «size_b» (now («numbers_b» .entry))
+    ensures { λ x. ⌜ x ≡ pairsOf «size_a» (now («numbers_a» .entry)) (now («links_a» .entry)) «size_b» (now («numbers_b» .entry))
         (now («links_b» .entry)) transform ⌝ }
 {
     axis_pairs::search_edges(
-        early,
         numbers_a,
         links_a,
         size_a,
@@ -179,8 +165,7 @@ fn edge_pairs(
     )
 }
 
-// The hulls are A and, placed in A's frame by the transform, B. With `early`, the search stops at the first new best that is strictly above the
-// speculative distance.
+// The hulls are A and, placed in A's frame by the transform, B. The search stops at the first new best that is strictly above the speculative distance.
 pub fn compute_separating_axis(
     numbers_a: &[f32],
     links_a: &[u8],
@@ -189,15 +174,13 @@ pub fn compute_separating_axis(
     links_b: &[u8],
     size_b: HullSize,
     transform: Transform,
-    early: bool,
 ) -> Search
     requires { ⌜ Accepted «size_a» (now «numbers_a») (now «links_a») × Accepted «size_b» (now «numbers_b») (now «links_b») × Placed transform ⌝ }
     ensures { λ r. ⌜ r ≡ searchOf «size_a» (now («numbers_a» .entry)) (now («links_a» .entry)) «size_b» (now («numbers_b» .entry))
-        (now («links_b» .entry)) transform early ⌝ }
+        (now («links_b» .entry)) transform ⌝ }
 {
     let r = rotation::make_matrix_from_quat(transform.q);
     let a = side_a(
-        early,
         numbers_a,
         links_a,
         size_a,
@@ -211,7 +194,6 @@ pub fn compute_separating_axis(
         return apart_along(2, a);
     }
     let b = side_b(
-        early,
         numbers_a,
         links_a,
         size_a,
@@ -225,7 +207,6 @@ pub fn compute_separating_axis(
         return apart_along(3, b);
     }
     let edge = edge_pairs(
-        early,
         numbers_a,
         links_a,
         size_a,

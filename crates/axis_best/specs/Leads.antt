@@ -1,5 +1,4 @@
--- The best axis so far: "strictly greater for a new best", and the search "stops at the first new best strictly above speculative" where an early
--- stop is asked for. Definitions only.
+-- The best axis so far: "strictly greater for a new best", and the search "stops at the first new best strictly above speculative". Definitions only.
 use mathlib.Core.Bool.{Bool, true, false, cond}
 use Prim.Native.Nat.{ℕ, zero, suc}
 use lib.Ieee as Ieee
@@ -18,18 +17,18 @@ lowest = Ieee.neg (float 0x3f80_0000) ⊘ float 0
 abbrev pub noneOf : Lead
 noneOf = record { found = false; apart = false; normal = zeroVec; separation = lowest; «index_a» = 0; «index_b» = 0 }
 
--- an early stop is asked for, and the separation is strictly above speculative
-unfoldable pub stopsOf : Bool → Float → Bool
-stopsOf early separation = cond early (Ieee.lt speculative separation) false
+-- a new best strictly above speculative stops the search
+unfoldable pub stopsOf : Float → Bool
+stopsOf separation = Ieee.lt speculative separation
 
 -- the lead that a new best has
-abbrev pub newBest : Bool → Vec3 → Float → ℕ → ℕ → Lead
-newBest early normal separation a b =
-    record { found = true; apart = stopsOf early separation; normal = normal; separation = separation; «index_a» = a; «index_b» = b }
+abbrev pub newBest : Vec3 → Float → ℕ → ℕ → Lead
+newBest normal separation a b =
+    record { found = true; apart = stopsOf separation; normal = normal; separation = separation; «index_a» = a; «index_b» = b }
 
 -- a new best is strictly greater
-unfoldable pub betterOf : Bool → Vec3 → Float → ℕ → ℕ → Lead → Lead
-betterOf early normal separation a b lead = cond (Ieee.lt (lead .separation) separation) (newBest early normal separation a b) lead
+unfoldable pub betterOf : Vec3 → Float → ℕ → ℕ → Lead → Lead
+betterOf normal separation a b lead = cond (Ieee.lt (lead .separation) separation) (newBest normal separation a b) lead
 
 -- what the steps 0 to n - 1 make of a lead; a search that has stopped stays as it is
 unfoldable pub leadAfter : (ℕ → Lead → Lead) → Lead → ℕ → Lead

@@ -1,7 +1,7 @@
 // The best axis that a search has met so far, and when the search stops. The faces of A, the faces of B and the pairs of edges are three searches of
 // this one sort.
 ghost use mathlib.Core.Path.{_≡_};
-ghost use Rattle.axis_best.specs.Leads.{noneOf, stopsOf, betterOf};
+ghost use Rattle.axis_best.specs.Leads.{noneOf, betterOf};
 use manifold::limits::SPECULATIVE_DISTANCE;
 use vector::Vec3;
 
@@ -32,29 +32,13 @@ pub fn none() -> Lead
     }
 }
 
-// Whether a new best at this separation stops the search.
-fn stops(early: bool, separation: f32) -> bool
-    ensures { λ r. ⌜ r ≡ stopsOf early separation ⌝ }
-{
-    if early {
-        return separation > SPECULATIVE_DISTANCE;
-    }
-    false
-}
-
-// The axis takes the lead where its separation is strictly above the best before it.
-pub fn better(
-    early: bool,
-    normal: Vec3,
-    separation: f32,
-    index_a: u8,
-    index_b: u8,
-    lead: Lead,
-) -> Lead
-    ensures { λ r. ⌜ r ≡ betterOf early normal separation «index_a» «index_b» lead ⌝ }
+// The axis takes the lead where its separation is strictly above the best before it, and stops the search where it is strictly above the speculative
+// distance too.
+pub fn better(normal: Vec3, separation: f32, index_a: u8, index_b: u8, lead: Lead) -> Lead
+    ensures { λ r. ⌜ r ≡ betterOf normal separation «index_a» «index_b» lead ⌝ }
 {
     if separation > lead.separation {
-        let apart = stops(early, separation);
+        let apart = separation > SPECULATIVE_DISTANCE;
         return Lead {
             found: true,
             apart,

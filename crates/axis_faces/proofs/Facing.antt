@@ -61,22 +61,22 @@ module _ (own : Bool) (turn : Rows) (position : Vec3) (s : HullSize) (n : List F
   face-made f plane d bias vertex at support along apart hp hd hb hw hv he ha hs = rw (hs, he, hv, hw, hb, ha, hd, hp)
 
   -- the lead after the faces below f
-  abbrev pub leadBefore : Bool → ℕ → Lead
-  leadBefore early = leadAfter (λ f. faceTakenOf early own (faceOf own turn position s n t m center extents f) f) noneOf
+  abbrev pub leadBefore : ℕ → Lead
+  leadBefore = leadAfter (λ f. faceTakenOf own (faceOf own turn position s n t m center extents f) f) noneOf
 
-  pub no-face : (early : Bool) → noneOf ≡ leadBefore early 0
-  no-face early = begins _ noneOf
+  pub no-face : noneOf ≡ leadBefore 0
+  no-face = begins _ noneOf
 
-  pub one-face : (early : Bool) (f : ℕ) (lead next : Lead) (face : Face) → lead ≡ leadBefore early f → lead .apart ≡ false
-      → face ≡ faceOf own turn position s n t m center extents f → next ≡ faceTakenOf early own face f lead → next ≡ leadBefore early (f + 1)
-  one-face early f lead next face p q e h = goes-on _ noneOf f lead next p q (h ∙ ap (λ (x : Face). faceTakenOf early own x f lead) e)
+  pub one-face : (f : ℕ) (lead next : Lead) (face : Face) → lead ≡ leadBefore f → lead .apart ≡ false
+      → face ≡ faceOf own turn position s n t m center extents f → next ≡ faceTakenOf own face f lead → next ≡ leadBefore (f + 1)
+  one-face f lead next face p q e h = goes-on _ noneOf f lead next p q (h ∙ ap (λ (x : Face). faceTakenOf own x f lead) e)
 
-  pub stopped-face : (early : Bool) (f : ℕ) (lead : Lead) → f ≤ s .faces → lead ≡ leadBefore early f → lead .apart ≡ true
-      → lead ≡ faceSearchWith early own turn position s n t m center extents
+  pub stopped-face : (f : ℕ) (lead : Lead) → f ≤ s .faces → lead ≡ leadBefore f → lead .apart ≡ true
+      → lead ≡ faceSearchWith own turn position s n t m center extents
   unfolding faceSearchWith
-  stopped-face early f lead h p q = stays _ noneOf (s .faces) f lead h p q
+  stopped-face f lead h p q = stays _ noneOf (s .faces) f lead h p q
 
-  pub all-faces : (early : Bool) (f : ℕ) (lead : Lead) → f ≡ s .faces → lead ≡ leadBefore early f
-      → lead ≡ faceSearchWith early own turn position s n t m center extents
+  pub all-faces : (f : ℕ) (lead : Lead) → f ≡ s .faces → lead ≡ leadBefore f
+      → lead ≡ faceSearchWith own turn position s n t m center extents
   unfolding faceSearchWith
-  all-faces early f lead h p = p ∙ ap (leadBefore early) h
+  all-faces f lead h p = p ∙ ap leadBefore h

@@ -49,27 +49,27 @@ above-minus-infinity (fin s m e) p = refl
 above-lowest : (x : Float) → T (finite x) → lt lowest x ≡ true
 above-lowest x p = ap (λ (z : Float). lt z x) lowest-is ∙ above-minus-infinity x p
 
-better-first : (early : Bool) (normal : Vec3) (x : Float) (a b : ℕ) → T (finite x) → betterOf early normal x a b noneOf ≡ newBest early normal x a b
+better-first : (normal : Vec3) (x : Float) (a b : ℕ) → T (finite x) → betterOf normal x a b noneOf ≡ newBest normal x a b
 unfolding betterOf
-better-first early normal x a b p = ap (λ (z : Bool). cond z (newBest early normal x a b) noneOf) (above-lowest x p)
+better-first normal x a b p = ap (λ (z : Bool). cond z (newBest normal x a b) noneOf) (above-lowest x p)
 
-better-keeps : (early : Bool) (normal : Vec3) (x : Float) (a b : ℕ) (lead : Lead) → lead .found ≡ true → betterOf early normal x a b lead .found ≡ true
+better-keeps : (normal : Vec3) (x : Float) (a b : ℕ) (lead : Lead) → lead .found ≡ true → betterOf normal x a b lead .found ≡ true
 unfolding betterOf
-better-keeps early normal x a b lead p = picked (λ (l : Lead). l .found ≡ true) (lt (lead .separation) x) refl p
+better-keeps normal x a b lead p = picked (λ (l : Lead). l .found ≡ true) (lt (lead .separation) x) refl p
 
 -- face f as the first to be looked at
-taken-first : (early own : Bool) (face : Face) (f : ℕ) → T (finite (face .separation)) → faceTakenOf early own face f noneOf
-    ≡ cond own (newBest early (face .normal) (face .separation) f (face .vertex)) (newBest early (face .normal) (face .separation) (face .vertex) f)
+taken-first : (own : Bool) (face : Face) (f : ℕ) → T (finite (face .separation)) → faceTakenOf own face f noneOf
+    ≡ cond own (newBest (face .normal) (face .separation) f (face .vertex)) (newBest (face .normal) (face .separation) (face .vertex) f)
 unfolding faceTakenOf
-taken-first early own face f p =
-    ap₂ (cond own) (better-first early (face .normal) (face .separation) f (face .vertex) p)
-    (better-first early (face .normal) (face .separation) (face .vertex) f p)
+taken-first own face f p =
+    ap₂ (cond own) (better-first (face .normal) (face .separation) f (face .vertex) p)
+    (better-first (face .normal) (face .separation) (face .vertex) f p)
 
-taken-keeps : (early own : Bool) (face : Face) (f : ℕ) (lead : Lead) → lead .found ≡ true → faceTakenOf early own face f lead .found ≡ true
+taken-keeps : (own : Bool) (face : Face) (f : ℕ) (lead : Lead) → lead .found ≡ true → faceTakenOf own face f lead .found ≡ true
 unfolding faceTakenOf
-taken-keeps early own face f lead p =
-    picked (λ (l : Lead). l .found ≡ true) own (better-keeps early (face .normal) (face .separation) f (face .vertex) lead p)
-    (better-keeps early (face .normal) (face .separation) (face .vertex) f lead p)
+taken-keeps own face f lead p =
+    picked (λ (l : Lead). l .found ≡ true) own (better-keeps (face .normal) (face .separation) f (face .vertex) lead p)
+    (better-keeps (face .normal) (face .separation) (face .vertex) f lead p)
 
 found-after : (step : ℕ → Lead → Lead) → step 0 noneOf .found ≡ true → ((i : ℕ) (l : Lead) → l .found ≡ true → step i l .found ≡ true)
     → (n : ℕ) → leadAfter step noneOf (suc n) .found ≡ true
@@ -88,17 +88,17 @@ module _ {turn : Rows} {position : Vec3} {s : HullSize} {n : List Float} {t : Hu
   separation-finite own = face-finite own (faces-ready F (boxOf m) _ _ refl refl refl)
 
   -- the first face becomes the best
-  pub first-best : (early own : Bool) → let first = face own 0 in
-      faceTakenOf early own first 0 noneOf
-      ≡ cond own (newBest early (first .normal) (first .separation) 0 (first .vertex)) (newBest early (first .normal) (first .separation) (first .vertex) 0)
-  first-best early own = taken-first early own (face own 0) 0 (separation-finite own 0 (omega (arith, F .fit .f-low)))
+  pub first-best : (own : Bool) → let first = face own 0 in
+      faceTakenOf own first 0 noneOf
+      ≡ cond own (newBest (first .normal) (first .separation) 0 (first .vertex)) (newBest (first .normal) (first .separation) (first .vertex) 0)
+  first-best own = taken-first own (face own 0) 0 (separation-finite own 0 (omega (arith, F .fit .f-low)))
 
   -- so that a face is found
-  pub found : (early own : Bool) → faceSearchOf early own turn position s n t m .found ≡ true
+  pub found : (own : Bool) → faceSearchOf own turn position s n t m .found ≡ true
   unfolding faceSearchOf faceSearchWith
-  found early own =
+  found own =
       let is-found : Lead → Type 0 = λ l. l .found ≡ true in
-      let step : ℕ → Lead → Lead = λ f. faceTakenOf early own (face own f) f in
+      let step : ℕ → Lead → Lead = λ f. faceTakenOf own (face own f) f in
       let some : suc (s .faces - 1) ≡ s .faces = omega (arith, F .fit .f-low) in
-      let first : is-found (step 0 noneOf) = subst is-found (sym (first-best early own)) (picked is-found own refl refl) in
-      subst (λ (k : ℕ). is-found (leadAfter step noneOf k)) some (found-after step first (λ i. taken-keeps early own (face own i) i) (s .faces - 1))
+      let first : is-found (step 0 noneOf) = subst is-found (sym (first-best own)) (picked is-found own refl refl) in
+      subst (λ (k : ℕ). is-found (leadAfter step noneOf k)) some (found-after step first (λ i. taken-keeps own (face own i) i) (s .faces - 1))

@@ -46,16 +46,16 @@ faceOf own turn position s n t m center extents f =
     record { normal = axis; separation = faceSeparationOf axis position (plane .offset) (exactOf d (vertexAt t m vertex)); vertex = vertex }
 
 -- face f against the best before it. Of a face of A the numbers are (face, vertex), of one of B (vertex, face)
-unfoldable pub faceTakenOf : Bool → Bool → Face → ℕ → Lead → Lead
-faceTakenOf early own face f lead =
+unfoldable pub faceTakenOf : Bool → Face → ℕ → Lead → Lead
+faceTakenOf own face f lead =
     cond own
-    (betterOf early (face .normal) (face .separation) f (face .vertex) lead)
-    (betterOf early (face .normal) (face .separation) (face .vertex) f lead)
+    (betterOf (face .normal) (face .separation) f (face .vertex) lead)
+    (betterOf (face .normal) (face .separation) (face .vertex) f lead)
 
 -- all faces in their order, with the middle and the half-sizes of the other hull's box
-unfoldable pub faceSearchWith : Bool → Bool → Rows → Vec3 → HullSize → List Float → HullSize → List Float → Vec3 → Vec3 → Lead
-faceSearchWith early own turn position s n t m center extents =
-    leadAfter (λ f. faceTakenOf early own (faceOf own turn position s n t m center extents f) f) noneOf (s .faces)
+unfoldable pub faceSearchWith : Bool → Rows → Vec3 → HullSize → List Float → HullSize → List Float → Vec3 → Vec3 → Lead
+faceSearchWith own turn position s n t m center extents =
+    leadAfter (λ f. faceTakenOf own (faceOf own turn position s n t m center extents f) f) noneOf (s .faces)
 
-unfoldable pub faceSearchOf : Bool → Bool → Rows → Vec3 → HullSize → List Float → HullSize → List Float → Lead
-faceSearchOf early own turn position s n t m = faceSearchWith early own turn position s n t m (centerOf (boxOf m)) (extentsOf (boxOf m))
+unfoldable pub faceSearchOf : Bool → Rows → Vec3 → HullSize → List Float → HullSize → List Float → Lead
+faceSearchOf own turn position s n t m = faceSearchWith own turn position s n t m (centerOf (boxOf m)) (extentsOf (boxOf m))

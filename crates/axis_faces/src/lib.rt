@@ -94,21 +94,20 @@ fn face_at(
 }
 
 // Face f takes the lead where it is strictly better. For A's faces the face is A's number and the vertex B's; for B's faces the other way round.
-fn taken(early: bool, own: bool, face: Face, f: usize, lead: Lead) -> Lead
+fn taken(own: bool, face: Face, f: usize, lead: Lead) -> Lead
     requires { ⌜ (f < 128) × (face .vertex < 128) ⌝ }
-    ensures { λ r. ⌜ r ≡ faceTakenOf early own face f lead ⌝ }
+    ensures { λ r. ⌜ r ≡ faceTakenOf own face f lead ⌝ }
 {
     let number = f as u8;
     let vertex = face.vertex as u8;
     let normal = face.normal;
     if own {
-        return axis_best::better(early, normal, face.separation, number, vertex, lead);
+        return axis_best::better(normal, face.separation, number, vertex, lead);
     }
-    axis_best::better(early, normal, face.separation, vertex, number, lead)
+    axis_best::better(normal, face.separation, vertex, number, lead)
 }
 
 fn search_with(
-    early: bool,
     own: bool,
     turn: [[f32; 3]; 3],
     position: Vec3,
@@ -120,7 +119,7 @@ fn search_with(
     extents: Vec3,
 ) -> Lead
     requires { ⌜ FacesReady turn position size (now numbers) other (now others) center extents ⌝ }
-    ensures { λ r. ⌜ r ≡ faceSearchWith early own turn position size (now (numbers .entry)) other (now (others .entry)) center extents ⌝ }
+    ensures { λ r. ⌜ r ≡ faceSearchWith own turn position size (now (numbers .entry)) other (now (others .entry)) center extents ⌝ }
 {
     let n = size.faces;
     let mut lead = axis_best::none();
@@ -138,7 +137,7 @@ fn search_with(
             extents,
             f,
         );
-        lead = taken(early, own, face, f, lead);
+        lead = taken(own, face, f, lead);
         if lead.apart {
             return lead;
         }
@@ -149,7 +148,6 @@ fn search_with(
 
 // The faces of the hull `numbers` against the vertices of the hull `others`. `turn` carries a normal into the other hull's frame.
 pub fn search_faces(
-    early: bool,
     own: bool,
     turn: [[f32; 3]; 3],
     position: Vec3,
@@ -159,11 +157,10 @@ pub fn search_faces(
     other: HullSize,
 ) -> Lead
     requires { ⌜ Facing turn position size (now numbers) other (now others) ⌝ }
-    ensures { λ r. ⌜ r ≡ faceSearchOf early own turn position size (now (numbers .entry)) other (now (others .entry)) ⌝ }
+    ensures { λ r. ⌜ r ≡ faceSearchOf own turn position size (now (numbers .entry)) other (now (others .entry)) ⌝ }
 {
     let space = hull::box_of(others, other);
     search_with(
-        early,
         own,
         turn,
         position,

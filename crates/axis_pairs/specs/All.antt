@@ -1,7 +1,6 @@
 -- Every pair of edges in the text's order: "B's edges outside, A's inside". Definitions only; what one edge of B makes of A's edges is in the specs
 -- of `axis_edges`.
 use Prim.Native.Nat.{ℕ}
-use mathlib.Core.Bool.{Bool}
 use Rattle.axis_best.specs.declared.Lead.{Lead}
 use Rattle.axis_best.specs.Leads.{noneOf, leadAfter}
 use Rattle.axis_edges.specs.declared.EdgeA.{EdgeA}
@@ -9,5 +8,5 @@ use Rattle.axis_edges.specs.declared.EdgeB.{EdgeB}
 use Rattle.axis_edges.specs.Edges.{rowPairs}
 
 -- edges 0 to m - 1 of B, each against edges 0 to n - 1 of A
-unfoldable pub allPairs : Bool → (ℕ → EdgeA) → ℕ → (ℕ → EdgeB) → ℕ → Lead
-allPairs early a n b m = leadAfter (λ j. rowPairs early a n (b j) j) noneOf m
+unfoldable pub allPairs : (ℕ → EdgeA) → ℕ → (ℕ → EdgeB) → ℕ → Lead
+allPairs a n b m = leadAfter (λ j. rowPairs a n (b j) j) noneOf m

@@ -68,7 +68,6 @@ fn three_lists() -> [f32; 384]
 
 // The first m edges of B against the first n of A, from a full table.
 fn scan_rows(
-    early: bool,
     table: &[f32],
     n: usize,
     numbers: &[f32],
@@ -84,7 +83,7 @@ fn scan_rows(
     requires { ⌜ ScanReady size (now numbers) (now links) n (now normals) (now turned) (now points) «size_b» (now «links_b») m
         × Table (now turned) («size_b» .faces) (λ k. edgeOfA size (now numbers) (now links) k .direction) n (now table)
         × (length (now table) ≤ 65536) ⌝ }
-    ensures { λ r. ⌜ r ≡ allPairs early (edgeOfA size (now (numbers .entry)) (now (links .entry))) n
+    ensures { λ r. ⌜ r ≡ allPairs (edgeOfA size (now (numbers .entry)) (now (links .entry))) n
         (edgeIn (now (turned .entry)) (now (points .entry)) «size_b» (now («links_b» .entry))) m ⌝ }
 {
     let mut along = empty_row();
@@ -97,7 +96,6 @@ fn scan_rows(
         let p = hull_links::face_of(links_b, size_b, 2 * j);
         let q = hull_links::face_of(links_b, size_b, 2 * j + 1);
         lead = axis_row::scan_row(
-            early,
             table,
             p * n,
             q * n,
@@ -123,7 +121,6 @@ fn scan_rows(
 
 // The table is filled and the rows are scanned; the table is lent with room for every normal of B along every edge of A.
 fn scan(
-    early: bool,
     directions: &[f32],
     n: usize,
     numbers: &[f32],
@@ -140,12 +137,11 @@ fn scan(
     requires { ⌜ ScanReady size (now numbers) (now links) n (now normals) (now turned) (now points) «size_b» (now «links_b») m
         × Three (λ k. edgeOfA size (now numbers) (now links) k .direction) n (now directions)
         × («size_b» .faces * n ≤ length (now table)) × (length (now table) ≤ 65536) ⌝ }
-    ensures { λ r. ⌜ r ≡ allPairs early (edgeOfA size (now (numbers .entry)) (now (links .entry))) n
+    ensures { λ r. ⌜ r ≡ allPairs (edgeOfA size (now (numbers .entry)) (now (links .entry))) n
         (edgeIn (now (turned .entry)) (now (points .entry)) «size_b» (now («links_b» .entry))) m ⌝ }
 {
     fill_table(turned, size_b.faces, directions, n, table);
     scan_rows(
-        early,
         table,
         n,
         numbers,
@@ -162,7 +158,6 @@ fn scan(
 
 // All pairs of an edge of A and an edge of B, with B turned by r and moved to `position`; the table is lent with room for them.
 fn search_with(
-    early: bool,
     numbers: &[f32],
     links: &[u8],
     size: HullSize,
@@ -175,7 +170,7 @@ fn search_with(
 ) -> Lead
     requires { ⌜ NumbersFit size (now numbers) × EdgesIn size (now links) × NumbersFit «size_b» (now «numbers_b») × EdgesIn «size_b» (now «links_b»)
         × («size_b» .faces * (size .«half_edges» / 2) ≤ length (now table)) × (length (now table) ≤ 65536) ⌝ }
-    ensures { λ x. ⌜ x ≡ allPairs early (edgeOfA size (now (numbers .entry)) (now (links .entry))) (size .«half_edges» / 2)
+    ensures { λ x. ⌜ x ≡ allPairs (edgeOfA size (now (numbers .entry)) (now (links .entry))) (size .«half_edges» / 2)
         (edgeOfB r position «size_b» (now («numbers_b» .entry)) (now («links_b» .entry))) («size_b» .«half_edges» / 2) ⌝ }
 {
     let n = size.half_edges / 2;
@@ -189,7 +184,6 @@ fn search_with(
     let mut points = three_lists();
     axis_lists::turned_points(r, position, numbers_b, size_b, &mut points);
     scan(
-        early,
         &directions,
         n,
         numbers,
@@ -227,7 +221,6 @@ fn fits_small(faces: usize, n: usize) -> bool
 
 // All pairs, with a table that has room for them.
 pub fn search_edges(
-    early: bool,
     numbers: &[f32],
     links: &[u8],
     size: HullSize,
@@ -238,13 +231,12 @@ pub fn search_edges(
     position: Vec3,
 ) -> Lead
     requires { ⌜ NumbersFit size (now numbers) × EdgesIn size (now links) × NumbersFit «size_b» (now «numbers_b») × EdgesIn «size_b» (now «links_b») ⌝ }
-    ensures { λ x. ⌜ x ≡ allPairs early (edgeOfA size (now (numbers .entry)) (now (links .entry))) (size .«half_edges» / 2)
+    ensures { λ x. ⌜ x ≡ allPairs (edgeOfA size (now (numbers .entry)) (now (links .entry))) (size .«half_edges» / 2)
         (edgeOfB r position «size_b» (now («numbers_b» .entry)) (now («links_b» .entry))) («size_b» .«half_edges» / 2) ⌝ }
 {
     if fits_small(size_b.faces, size.half_edges / 2) {
         let mut table = small_table();
         return search_with(
-            early,
             numbers,
             links,
             size,
@@ -258,7 +250,6 @@ pub fn search_edges(
     }
     let mut table = large_table();
     search_with(
-        early,
         numbers,
         links,
         size,

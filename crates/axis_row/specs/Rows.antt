@@ -1,6 +1,6 @@
 -- One edge of B against the edges of A that have passed: what is tried, and what the scan asks for. Definitions only.
 use Prim.Native.Nat.{ℕ, _+_, _*_, _<_, _≤_}
-use mathlib.Core.Bool.{Bool, false}
+use mathlib.Core.Bool.{false}
 use mathlib.Core.List.{List}
 use mathlib.Core.Path.{_≡_}
 use lib.ListN.{getD}
@@ -16,8 +16,8 @@ use Rattle.axis_edges.specs.Ready.{EdgesIn}
 use Rattle.axis_lists.specs.Lists.{Three, Row}
 
 -- edge i of A, which has passed, against edge j of B; the dots of B's two normals stand in the table from p and from q on
-unfoldable pub triedAt : Bool → List Float → ℕ → ℕ → (ℕ → EdgeA) → EdgeB → ℕ → ℕ → Lead → Lead
-triedAt early table p q a b j i lead = triedOf early (getD table (p + i) nan) (getD table (q + i) nan) (a i) b i j lead
+unfoldable pub triedAt : List Float → ℕ → ℕ → (ℕ → EdgeA) → EdgeB → ℕ → ℕ → Lead → Lead
+triedAt table p q a b j i lead = triedOf (getD table (p + i) nan) (getD table (q + i) nan) (a i) b i j lead
 
 -- what the scan of one edge of B asks for: of hull A, of the lists, and of the table
 pub record RowReady (s : HullSize) (n : List Float) (l : List ℕ) (count : ℕ) (normals : List Float) (b : EdgeB) (j : ℕ) (start : Lead)

@@ -125,7 +125,6 @@ fn sift_again(
 
 // The first `left` edges of the list, which have passed all tests of signs, against edge j of B.
 fn scan_list(
-    early: bool,
     table: &[f32],
     p: usize,
     q: usize,
@@ -142,7 +141,7 @@ fn scan_list(
     requires { ⌜ NumbersFit size (now numbers) × EdgesIn size (now links) × (2 * n ≤ size .«half_edges») × (p + n ≤ length (now table))
         × (q + n ≤ length (now table)) × (j < 128) × (length (now list) ≡ 128) × (left ≤ 128) × ((k : ℕ) → k < left → getD (now list) k 0 < n)
         × (start .apart ≡ false) ⌝ }
-    ensures { λ r. ⌜ r ≡ leadAfter (λ k. triedAt early (now (table .entry)) p q (edgeOfA size (now (numbers .entry)) (now (links .entry))) b
+    ensures { λ r. ⌜ r ≡ leadAfter (λ k. triedAt (now (table .entry)) p q (edgeOfA size (now (numbers .entry)) (now (links .entry))) b
         j (getD (now (list .entry)) k 0)) start left ⌝ }
 {
     let mut lead = start;
@@ -150,7 +149,7 @@ fn scan_list(
     while k < left {
         let i = hull_links::wide(list[k]);
         let a = axis_edges::edge_of_a(numbers, links, size, i);
-        lead = axis_edges::tried(early, table[p + i], table[q + i], a, b, i, j, lead);
+        lead = axis_edges::tried(table[p + i], table[q + i], a, b, i, j, lead);
         if lead.apart {
             return lead;
         }
@@ -161,7 +160,6 @@ fn scan_list(
 
 // Edge j of B against the edges of A. B's two normals along A's edges stand in the table from p and from q on; the other three slices are lent for work.
 pub fn scan_row(
-    early: bool,
     table: &[f32],
     p: usize,
     q: usize,
@@ -179,7 +177,7 @@ pub fn scan_row(
 ) -> Lead
     requires { ⌜ RowReady size (now numbers) (now links) n (now normals) b j start (now table) p q × (length (now along) ≡ 128)
         × (length (now list) ≡ 128) × (length (now out) ≡ 128) ⌝ }
-    ensures { λ r. ⌜ (r ≡ rowPairs early (edgeOfA size (now (numbers .entry)) (now (links .entry))) n b j start) × (length (now (along .exit)) ≡ 128)
+    ensures { λ r. ⌜ (r ≡ rowPairs (edgeOfA size (now (numbers .entry)) (now (links .entry))) n b j start) × (length (now (along .exit)) ≡ 128)
         × (length (now (list .exit)) ≡ 128) × (length (now (out .exit)) ≡ 128) ⌝ }
 {
     let m = sift(table, p, q, n, list, out);
@@ -189,19 +187,5 @@ pub fn scan_row(
     // In eights, so that no face is done alone. What the places above A's faces then hold is not looked at.
     axis_lists::fill_row(b.direction, normals, (size.faces + 7) / 8 * 8, along, 0);
     let left = sift_again(table, p, n, along, links, size, list, m, out);
-    scan_list(
-        early,
-        table,
-        p,
-        q,
-        n,
-        numbers,
-        links,
-        size,
-        b,
-        j,
-        out,
-        left,
-        start,
-    )
+    scan_list(table, p, q, n, numbers, links, size, b, j, out, left, start)
 }

@@ -14,7 +14,6 @@ use Rattle.hull_links.specs.declared.HullSize.{HullSize}
 use Rattle.collide_outcome.specs.declared.Cached.{Cached}
 use Rattle.collide_cached.specs.Again.{cachedFaceAOf, cachedFaceBOf, cachedEdgeOf}
 use Rattle.collide_full.specs.Full.{fullOf}
-use Rattle.collide_manual.specs.Manual.{manualFaceAOf, manualFaceBOf, manualEdgeOf}
 use Rattle.collide_refusals.specs.Refusals.{refusalOf}
 use Rattle.collide_outcome.specs.Answers.{accepted, refusedOf, answerOf}
 use Rattle.collide.specs.Call.{afterCached, workedOf, collideOf}
@@ -26,7 +25,7 @@ module _ (s : HullSize) (n : List Float) (l : List ℕ) (t : HullSize) (m : List
     unfolding afterCached
     cached-refused h = rw (ne-eqb _ _ h)
 
-    pub cached-hit : cached .status ≡ 0 → cached .hit ≡ true → accepted (cached .contact) (hitSet 1 c) ≡ afterCached s n l t m k x c cached
+    pub cached-hit : cached .status ≡ 0 → cached .hit ≡ true → accepted 0 (cached .contact) (hitSet 1 c) ≡ afterCached s n l t m k x c cached
     unfolding afterCached
     cached-hit h p = rw (eq-eqb _ _ h, p)
 
@@ -46,30 +45,13 @@ module _ (s : HullSize) (n : List Float) (l : List ℕ) (t : HullSize) (m : List
   unfolding workedOf
   at-4 q = rw q
 
-  pub at-6 : c .kind ≡ 6 → answerOf c (manualFaceAOf s n l t m k x) ≡ workedOf s n l t m k x c
+  pub at-rest : (c .kind ≡ 2 → ⊥) → (c .kind ≡ 3 → ⊥) → (c .kind ≡ 4 → ⊥) → answerOf c (fullOf s n l t m k x) ≡ workedOf s n l t m k x c
   unfolding workedOf
-  at-6 q = rw q
-
-  pub at-7 : c .kind ≡ 7 → answerOf c (manualFaceBOf s n l t m k x) ≡ workedOf s n l t m k x c
-  unfolding workedOf
-  at-7 q = rw q
-
-  pub at-8 : c .kind ≡ 8 → answerOf c (manualEdgeOf s n l t m k x c) ≡ workedOf s n l t m k x c
-  unfolding workedOf
-  at-8 q = rw q
-
-  pub at-5 : c .kind ≡ 5 → answerOf c (fullOf s n l t m k x) ≡ workedOf s n l t m k x c
-  unfolding workedOf
-  at-5 q = rw q
-
-  pub at-rest : (c .kind ≡ 2 → ⊥) → (c .kind ≡ 3 → ⊥) → (c .kind ≡ 4 → ⊥) → (c .kind ≡ 6 → ⊥) → (c .kind ≡ 7 → ⊥) → (c .kind ≡ 8 → ⊥)
-      → answerOf c (fullOf s n l t m k x) ≡ workedOf s n l t m k x c
-  unfolding workedOf
-  at-rest p2 p3 p4 p6 p7 p8 = rw (ne-eqb _ _ p2, ne-eqb _ _ p3, ne-eqb _ _ p4, ne-eqb _ _ p6, ne-eqb _ _ p7, ne-eqb _ _ p8)
+  at-rest p2 p3 p4 = rw (ne-eqb _ _ p2, ne-eqb _ _ p3, ne-eqb _ _ p4)
 
   -- ---- the call
   module _ (capacity : ℤ) where
-    pub too-small : ltZ capacity (pos 4) ≡ true → accepted emptyContact c ≡ collideOf s n l t m k x capacity c
+    pub too-small : ltZ capacity (pos 4) ≡ true → accepted 0 emptyContact c ≡ collideOf s n l t m k x capacity c
     unfolding collideOf
     too-small h = rw h
 

@@ -10,9 +10,6 @@ use collide_cached::cached_edge;
 use collide_cached::cached_face_a;
 use collide_cached::cached_face_b;
 use collide_full::full_search;
-use collide_manual::manual_edge;
-use collide_manual::manual_face_a;
-use collide_manual::manual_face_b;
 use collide_outcome::Cached;
 use collide_outcome::accepted_with;
 use collide_outcome::answer_of;
@@ -25,7 +22,8 @@ use manifold::records::empty_contact;
 use manifold::records::hit_set;
 use vector::Transform;
 
-// A cached axis that serves again: hit 1, and the other fields of the cache kept. Else the full search.
+// A cached axis that serves again: hit 1, and the other fields of the cache kept. Else the full search. Types 2, 3 and 4 bring it here, and none of them is
+// retired.
 fn after_cached(
     numbers_a: &[f32],
     links_a: &[u8],
@@ -46,7 +44,7 @@ fn after_cached(
     }
     if cached.hit {
         let contact = cached.contact;
-        return accepted_with(contact, hit_set(1, cache));
+        return accepted_with(0, contact, hit_set(1, cache));
     }
     let built = full_search(
         numbers_a,
@@ -60,7 +58,7 @@ fn after_cached(
     answer_of(cache, built)
 }
 
-// The work that the cache's type asks for.
+// The work that the cache's type asks for: types 2, 3 and 4 have an axis to be tried again, every other type acts as type 0.
 fn worked(
     numbers_a: &[f32],
     links_a: &[u8],
@@ -78,7 +76,7 @@ fn worked(
 {
     let kind = cache.kind;
     match kind {
-        0 | 1 | 5 | 9..=255 => {
+        0 | 1 | 5..=255 => {
             let built = full_search(
                 numbers_a,
                 links_a,
@@ -159,43 +157,6 @@ fn worked(
                 cached,
             )
         }
-        6 => {
-            let built = manual_face_a(
-                numbers_a,
-                links_a,
-                size_a,
-                numbers_b,
-                links_b,
-                size_b,
-                transform,
-            );
-            answer_of(cache, built)
-        }
-        7 => {
-            let built = manual_face_b(
-                numbers_a,
-                links_a,
-                size_a,
-                numbers_b,
-                links_b,
-                size_b,
-                transform,
-            );
-            answer_of(cache, built)
-        }
-        8 => {
-            let built = manual_edge(
-                numbers_a,
-                links_a,
-                size_a,
-                numbers_b,
-                links_b,
-                size_b,
-                transform,
-                cache,
-            );
-            answer_of(cache, built)
-        }
     }
 }
 
@@ -215,7 +176,7 @@ pub fn collide_core(
         (now («links_b» .entry)) transform capacity cache ⌝ }
 {
     if capacity < 4 {
-        return accepted_with(empty_contact(), cache);
+        return accepted_with(0, empty_contact(), cache);
     }
     let refusal = first_refusal(
         numbers_a,

@@ -1,6 +1,6 @@
 -- The definitions of this crate at each of their cases, for the code that comes through it. Assumes nothing.
 use Prim.Native.Nat.{ℕ, _<_}
-use mathlib.Core.Bool.{Bool, true, false, cond}
+use mathlib.Core.Bool.{true, false, cond}
 use mathlib.Core.List.{List}
 use mathlib.Core.Path.{_≡_, sym, ap, subst, _∙_}
 use lib.Dec.{eqb}
@@ -90,10 +90,10 @@ module _ (s : HullSize) (n : List Float) (l : List ℕ) (t : HullSize) (m : List
 
 -- ---- the numbers of what was found are in range
 module _ {s t : HullSize} {n m : List Float} {l k : List ℕ} (x : Transform) (a : Accepted s n l) (b : Accepted t m k) where
-  pub found-in : (early : Bool) (f : Found) → Search.Found f ≡ searchOf s n l t m k x early
+  pub found-in : (f : Found) → Search.Found f ≡ searchOf s n l t m k x
       → (f .«face_a» .«index_a» < s .faces) × (f .«face_b» .«index_b» < t .faces) × EdgeInRange s t (f .edge)
   unfolding InRange
-  found-in early f q = subst (InRange s t) (sym q) (in-range x a b early)
+  found-in f q = subst (InRange s t) (sym q) (in-range x a b)
 
 pub pair-in : (s t : HullSize) (e : Axis) (edge : EdgeAxis) → edge ≡ EdgeAxis.Pair e → EdgeInRange s t edge → (e .«index_a» < s .«half_edges»)
     × (e .«index_b» < t .«half_edges»)

@@ -63,6 +63,5 @@ module _ (s : HullSize) (n : List Float) (l : List ℕ) (t : HullSize) (m : List
   afterSearch (Search.Apart a) = apartBuilt a
   afterSearch (Search.Found f) = foundContact (f .«face_a») (f .«face_b») (f .edge)
 
-  -- the full search stops early
   unfoldable pub fullOf : Built
-  fullOf = afterSearch (searchOf s n l t m k x true)
+  fullOf = afterSearch (searchOf s n l t m k x)

@@ -24,7 +24,7 @@ use manifold::records::empty_contact;
 use vector::Transform;
 
 // The hulls are apart: no points, and the axis in the cache.
-pub fn apart_built(apart: Apart) -> Built
+fn apart_built(apart: Apart) -> Built
     ensures { λ r. ⌜ r ≡ apartBuilt apart ⌝ }
 {
     let contact = empty_contact();
@@ -53,7 +53,7 @@ fn tries_edge(built: Built, edge: Axis) -> bool
 }
 
 // The contact of a pair of edges along its axis.
-pub fn pair_contact(
+fn pair_contact(
     numbers_a: &[f32],
     links_a: &[u8],
     size_a: HullSize,
@@ -83,7 +83,7 @@ pub fn pair_contact(
 }
 
 // The contact of an axis of face A.
-pub fn contact_a(
+fn contact_a(
     numbers_a: &[f32],
     links_a: &[u8],
     size_a: HullSize,
@@ -112,7 +112,7 @@ pub fn contact_a(
 }
 
 // The contact of an axis of face B.
-pub fn contact_b(
+fn contact_b(
     numbers_a: &[f32],
     links_a: &[u8],
     size_a: HullSize,
@@ -317,7 +317,6 @@ pub fn full_search(
         links_b,
         size_b,
         transform,
-        true,
     ) {
         Search::Apart(apart) => apart_built(apart),
         Search::Found(found) => {

@@ -2,7 +2,7 @@
 // What each says is in specs/.
 ghost use mathlib.Core.Path.{_≡_};
 ghost use Rattle.collide_outcome.specs.Builds.{touchedOf, missed, refusedAt};
-ghost use Rattle.collide_outcome.specs.Answers.{accepted, refusedOf, answerOf};
+ghost use Rattle.collide_outcome.specs.Answers.{retiredOf, accepted, refusedOf, answerOf};
 ghost use Rattle.collide_outcome.specs.Served.{hitWith, noHit, nearOf, servedOf};
 use manifold::Answer;
 use manifold::Contact;
@@ -62,16 +62,30 @@ pub fn refused_at(status: u8) -> Built
     }
 }
 
-pub fn accepted_with(contact: Contact, cache: SatCache) -> Answer
-    ensures { λ r. ⌜ r ≡ accepted contact cache ⌝ }
+// The mark of a type that was read.
+fn retired_mark(kind: u8) -> u8
+    ensures { λ r. ⌜ r ≡ retiredOf kind ⌝ }
+{
+    match kind {
+        6..=8 => 1,
+        _ => 0,
+    }
+}
+
+pub fn accepted_with(retired: u8, contact: Contact, cache: SatCache) -> Answer
+    ensures { λ r. ⌜ r ≡ accepted retired contact cache ⌝ }
 {
     Answer {
-        outcome: Outcome { status: 0, contact },
+        outcome: Outcome {
+            status: 0,
+            contact,
+            retired,
+        },
         cache,
     }
 }
 
-// An empty contact, and the cache as it was lent.
+// An empty contact, no mark, and the cache as it was lent.
 pub fn refused(status: u8, cache: SatCache) -> Answer
     ensures { λ r. ⌜ r ≡ refusedOf status cache ⌝ }
 {
@@ -80,12 +94,13 @@ pub fn refused(status: u8, cache: SatCache) -> Answer
         outcome: Outcome {
             status,
             contact: empty,
+            retired: 0,
         },
         cache,
     }
 }
 
-// What was built, or the refusal that the work met.
+// What was built, with the mark of the type that was read; or the refusal that the work met.
 pub fn answer_of(cache: SatCache, built: Built) -> Answer
     ensures { λ r. ⌜ r ≡ answerOf cache built ⌝ }
 {
@@ -94,7 +109,7 @@ pub fn answer_of(cache: SatCache, built: Built) -> Answer
     }
     let contact = built.contact;
     let next = built.cache;
-    accepted_with(contact, next)
+    accepted_with(retired_mark(cache.kind), contact, next)
 }
 
 // A hit, with the contact that comes of it; else the full search has to be made, or the work met a refusal, whose number is the status.

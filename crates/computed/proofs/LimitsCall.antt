@@ -42,13 +42,12 @@ use Rattle.clip_incident.specs.Incident.{projectionOf, flatterOf, flattestFrom,
 use Rattle.clip.specs.Candidates.{taggedOf, cornerOf, builtOf, sidePlaneOf, cutOn, goesOn, cutRound, candidatesOf}
 use Rattle.reduce_scores.specs.Images.{leastSeparationOf, touchingOf}
 use Rattle.contacts.specs.Faces.{onFace, faceAOf, faceBOf}
-use Rattle.collide_outcome.specs.Answers.{answerOf}
+use Rattle.collide_outcome.specs.Answers.{retiredOf, answerOf}
 use Rattle.collide_outcome.specs.Served.{nearOf, servedOf}
 use Rattle.collide_refusals.specs.Refusals.{firstHalf, cacheRight, refusalOf}
 use Rattle.collide_cached.specs.Again.{deepestBelowA, separationFromA, cachedFaceAOf, deepestBelowB, separationFromB, cachedFaceBOf, cachedEdgeOf}
 use Rattle.collide_cached.specs.Ridges.{ridgeOf, carriedRidge, crossOver, wideOf, crossesOf, axisBetween}
 use Rattle.collide_full.specs.Full.{apartBuilt, contactA, contactB, winnerContact, withEdge, foundContact, afterSearch, fullOf}
-use Rattle.collide_manual.specs.Manual.{unchanged, afterFaceA, afterFaceB, pairOrNone, afterEdge, manualFaceAOf, manualFaceBOf, manualEdgeOf}
 use Rattle.collide.specs.Call.{afterCached, workedOf, collideOf}
 use Rattle.computed.proofs.Rows.{Row, row, is, yes, no, given, said, bits, vec, sizes}
 use Rattle.computed.proofs.Shapes.{Sample, tetrahedron, upright, lying}
@@ -76,10 +75,11 @@ away = at 0x447a_0000 0
 abbrev served : (kind a b : ℕ) → Bool
 served kind a b = cacheRight (sizes 4 12 4) (sizes 8 24 6) (cache 0 kind a b 0)
 
--- an answer: its status, how many points, and the cache
+-- an answer: its status, how many points, its mark, and the cache
 abbrev told : Answer → List ℕ
 told r =
-    r .outcome .status ∷ r .outcome .contact .count ∷ r .cache .separation ∷ r .cache .kind ∷ r .cache .«index_a» ∷ r .cache .«index_b» ∷ r .cache .hit ∷ []
+    r .outcome .status ∷ r .outcome .contact .count ∷ r .outcome .retired ∷ r .cache .separation ∷ r .cache .kind ∷ r .cache .«index_a» ∷ r .cache .«index_b»
+    ∷ r .cache .hit ∷ []
 
 -- a hull of nothing; one vertex at the origin and no face; the same with a padding lane at z = -1; one vertex at the origin and the face z = 0
 abbrev nothing : Sample
@@ -101,9 +101,12 @@ numbersOf h = map float (h .bits)
 abbrev refusal : Sample → Sample → Transform → SatCache → ℕ
 refusal a b x c = refusalOf (a .size) (numbersOf a) (a .links) (b .size) (numbersOf b) (b .links) x c
 
--- the call of two hulls of nothing, with this capacity and a cache of any bits
-abbrev called : ℤ → List ℕ
-called capacity = told (collideOf (sizes 0 0 0) [] [] (sizes 0 0 0) [] [] here capacity (cache 0x7f80_0001 2 9 9 1))
+-- the call of two hulls of nothing, with this capacity and a cache of this type and any other bits; and that cache with this status
+abbrev called : ℤ → ℕ → List ℕ
+called capacity kind = told (collideOf (sizes 0 0 0) [] [] (sizes 0 0 0) [] [] here capacity (cache 0x7f80_0001 kind 9 9 1))
+
+abbrev untouched : ℕ → ℕ → List ℕ
+untouched status kind = status ∷ 0 ∷ 0 ∷ 0x7f80_0001 ∷ kind ∷ 9 ∷ 9 ∷ 1 ∷ []
 
 -- the work for a cache of this type with separation 2 and hit 1; and the type that it leaves in the cache, 0 where the cache is cleared
 abbrev work : Sample → Sample → Transform → ℕ → Answer
@@ -130,19 +133,23 @@ winner a b =
     (record { normal = vec 0 0 0; separation = float b; «index_a» = 0; «index_b» = 0 })
     .status
 
--- no points, and the cache: as it was but for hit; an axis apart of this type with separation 1; refusal 5, and the cache as it was
+-- no points, and the cache: as it was but for hit; an axis apart of this type with separation 1, and this mark; refusal 5, and the cache as it was
 abbrev keptBut : ℕ → ℕ → List ℕ
-keptBut hit kind = 0 ∷ 0 ∷ 0x4000_0000 ∷ kind ∷ 0 ∷ 0 ∷ hit ∷ []
+keptBut hit kind = 0 ∷ 0 ∷ 0 ∷ 0x4000_0000 ∷ kind ∷ 0 ∷ 0 ∷ hit ∷ []
 
-abbrev apartBy : ℕ → List ℕ
-apartBy kind = 0 ∷ 0 ∷ 0x3f80_0000 ∷ kind ∷ 0 ∷ 0 ∷ 0 ∷ []
+abbrev apartBy : ℕ → ℕ → List ℕ
+apartBy mark kind = 0 ∷ 0 ∷ mark ∷ 0x3f80_0000 ∷ kind ∷ 0 ∷ 0 ∷ 0 ∷ []
 
 abbrev refused5 : ℕ → List ℕ
-refused5 kind = 5 ∷ 0 ∷ 0x4000_0000 ∷ kind ∷ 0 ∷ 0 ∷ 1 ∷ []
+refused5 kind = 5 ∷ 0 ∷ 0 ∷ 0x4000_0000 ∷ kind ∷ 0 ∷ 0 ∷ 1 ∷ []
 
 -- two edges far apart, where each cached axis is a hit, and the full search stops at A's first face
 abbrev searches : ℕ → Row
 searches kind = is (leaves upright lying away kind) 2
+
+-- and the mark that it gives
+abbrev mark : ℕ → ℕ
+mark kind = work upright lying away kind .outcome .retired
 
 abbrev table : List Row
 table =
@@ -165,29 +172,30 @@ table =
     -- "5: the face .. has a support vertex not below V"
     ∷ is (onA 0) 0 ∷ is (onA 1) 5 ∷ is (onB 0) 0 ∷ is (onB 1) 5
     -- "capacity below 4 comes first and is accepted, with no points, the cache untouched, nothing else looked at."
-    ∷ row (called (pos 3)) (0 ∷ 0 ∷ 0x7f80_0001 ∷ 2 ∷ 9 ∷ 9 ∷ 1 ∷ [])
-    ∷ row (called (pos 0)) (0 ∷ 0 ∷ 0x7f80_0001 ∷ 2 ∷ 9 ∷ 9 ∷ 1 ∷ [])
-    ∷ row (called (negsuc 0)) (0 ∷ 0 ∷ 0x7f80_0001 ∷ 2 ∷ 9 ∷ 9 ∷ 1 ∷ [])
-    ∷ row (called (negsuc 0x7fff_ffff)) (0 ∷ 0 ∷ 0x7f80_0001 ∷ 2 ∷ 9 ∷ 9 ∷ 1 ∷ [])
+    ∷ row (called (pos 3) 2) (untouched 0 2) ∷ row (called (pos 0) 2) (untouched 0 2) ∷ row (called (negsuc 0) 2) (untouched 0 2)
+    ∷ row (called (negsuc 0x7fff_ffff) 2) (untouched 0 2)
     -- "Refusals .. return an empty contact and leave the cache's bits, hit included."
-    ∷ row (called (pos 4)) (1 ∷ 0 ∷ 0x7f80_0001 ∷ 2 ∷ 9 ∷ 9 ∷ 1 ∷ [])
-    ∷ row (called (pos 0x7fff_ffff)) (1 ∷ 0 ∷ 0x7f80_0001 ∷ 2 ∷ 9 ∷ 9 ∷ 1 ∷ [])
-    -- "Types 6, 7, 8: search without early stop, build that kind straight into the cache, done; 8 with no edge pair changes nothing but hit."
-    ∷ is (leaves faced point above 6) 0 ∷ row (worked faced padding here 6) (refused5 6)
-    ∷ is (leaves point faced below 7) 0 ∷ row (worked padding faced here 7) (refused5 7)
-    ∷ row (worked faced point above 8) (keptBut 0 8) ∷ row (worked nothing nothing here 8) (keptBut 0 8)
+    ∷ row (called (pos 4) 2) (untouched 1 2) ∷ row (called (pos 0x7fff_ffff) 2) (untouched 1 2)
+    -- document 02, j: a retired type acts as type 0, and the mark "is set only on accepted calls with capacity 4 or more"
+    ∷ row (worked faced point above 6) (apartBy 1 2) ∷ row (worked point faced below 7) (apartBy 1 3) ∷ row (worked faced point above 8) (apartBy 1 2)
+    ∷ row (worked faced padding here 6) (refused5 6) ∷ row (worked padding faced here 7) (refused5 7)
+    ∷ row (called (pos 3) 6) (untouched 0 6) ∷ row (called (pos 3) 7) (untouched 0 7) ∷ row (called (pos 3) 8) (untouched 0 8)
+    ∷ row (called (pos 4) 6) (untouched 1 6) ∷ row (called (pos 4) 7) (untouched 1 7) ∷ row (called (pos 4) 8) (untouched 1 8)
+    ∷ is (mark 0) 0 ∷ is (mark 1) 0 ∷ is (mark 2) 0 ∷ is (mark 3) 0 ∷ is (mark 4) 0 ∷ is (mark 5) 0 ∷ is (mark 6) 1 ∷ is (mark 7) 1 ∷ is (mark 8) 1
+    ∷ is (mark 9) 0 ∷ is (mark 255) 0
     -- "Type 2 or 3: .. At or above speculative: hit 1, no points. .. Else full search."
     ∷ row (worked faced point above 2) (keptBut 1 2) ∷ is (leaves faced point here 2) 0
     ∷ row (worked point faced below 3) (keptBut 1 3) ∷ is (leaves point faced here 3) 0
     -- "Type 4: .. Strictly above speculative: hit 1, no points."; where the tests fail, full search
     ∷ row (worked upright lying away 4) (keptBut 1 4) ∷ row (worked upright lying away 2) (keptBut 1 2) ∷ row (worked upright lying away 3) (keptBut 1 3)
-    ∷ row (worked faced point above 4) (apartBy 2)
+    ∷ row (worked faced point above 4) (apartBy 0 2)
     -- "Otherwise face A wins only if strictly above face B."
     ∷ is (winner 0x3f80_0001 0x3f80_0000) 5 ∷ is (winner 0x3f80_0000 0x3f80_0000) 0 ∷ is (winner 0x3f80_0000 0x3f80_0001) 0
     -- "With 1 to 4 passed, hit becomes 0": the full search leaves its own axis in the cache, and a refusal leaves all as it was
-    ∷ row (worked faced point above 0) (apartBy 2) ∷ row (worked point faced below 0) (apartBy 3) ∷ row (worked faced padding here 0) (refused5 0)
-    -- "Types 1, 5 and 9 to 255 act as type 0: full search."
-    ∷ searches 0 ∷ searches 1 ∷ searches 5 ∷ searches 9 ∷ searches 10 ∷ searches 127 ∷ searches 128 ∷ searches 254 ∷ searches 255
+    ∷ row (worked faced point above 0) (apartBy 0 2) ∷ row (worked point faced below 0) (apartBy 0 3) ∷ row (worked faced padding here 0) (refused5 0)
+    -- types 1 and 5 to 255 act as type 0: full search
+    ∷ searches 0 ∷ searches 1 ∷ searches 5 ∷ searches 6 ∷ searches 7 ∷ searches 8 ∷ searches 9 ∷ searches 10 ∷ searches 127 ∷ searches 128
+    ∷ searches 254 ∷ searches 255
     ∷ []
 
 pub limits : given table ≡ said table
@@ -201,8 +209,7 @@ unfolding isqrt pattern rootOf patternOf embedOf indexOf absOf minOf maxOf addOf
     passesOf parallelOf betweenOf axisAcrossOf edgeSeparationOf triedOf edgePairOf rowPairs allPairs axisOf apartOf edgeOf foundOf
     searchAnswerOf sideOfA sideOfB pairsOf searchOf cacheOf putOutOf cutFrom lastOf cutOf projectionOf flatterOf flattestFrom flattestOf
     lowerFaceOf incidentFaceOf taggedOf cornerOf builtOf sidePlaneOf cutOn goesOn cutRound candidatesOf leastSeparationOf touchingOf onFace faceAOf faceBOf
-    answerOf nearOf servedOf firstHalf cacheRight refusalOf deepestBelowA separationFromA cachedFaceAOf deepestBelowB separationFromB cachedFaceBOf
+    retiredOf answerOf nearOf servedOf firstHalf cacheRight refusalOf deepestBelowA separationFromA cachedFaceAOf deepestBelowB separationFromB cachedFaceBOf
     cachedEdgeOf ridgeOf carriedRidge crossOver wideOf crossesOf axisBetween apartBuilt contactA contactB winnerContact withEdge foundContact afterSearch
-    fullOf unchanged afterFaceA afterFaceB pairOrNone afterEdge manualFaceAOf manualFaceBOf manualEdgeOf afterCached workedOf collideOf Ieee.size
-    Ieee.ofBits toBits Ieee.lt Ieee.le Ieee.neg Ieee.sub Ieee.div Ieee.add Ieee.mul
+    fullOf afterCached workedOf collideOf Ieee.size Ieee.ofBits toBits Ieee.lt Ieee.le Ieee.neg Ieee.sub Ieee.div Ieee.add Ieee.mul
 limits = refl

@@ -3,7 +3,7 @@ use mathlib.Core.Path.{_≡_, refl}
 use mathlib.Core.List.{List, [], _∷_}
 use Prim.Native.Nat.{ℕ}
 use lib.IntN.{ℤ, pos, negsuc}
-use lib.ListN.{length, take, set, replicate}
+use lib.ListN.{length, getD, take, set, replicate}
 use lib.Ieee.{toBits}
 use lib.Ieee as Ieee
 use Rattle.root.specs.Root.{isqrt, pattern, rootOf}
@@ -86,14 +86,15 @@ table =
     ∷ row (frameAnswer (0x11 ∷ 0 ∷ 3 ∷ 1 ∷ 9 ∷ [])) (0x91 ∷ 0 ∷ 9 ∷ 1 ∷ 3 ∷ [])
     ∷ row (answer (0x11 ∷ 0 ∷ 3 ∷ 1 ∷ [])) (fault 0x23) ∷ row (answer (0x11 ∷ 0 ∷ 3 ∷ 1 ∷ 9 ∷ 0 ∷ [])) (fault 0x23)
     ∷ row (answer (0x11 ∷ 0 ∷ 3 ∷ 2 ∷ 9 ∷ [])) (fault 0x08) ∷ row (answer (0x11 ∷ 2 ∷ 3 ∷ 0 ∷ 9 ∷ [])) (fault 0x08)
-    -- "Answer: 92, status (a byte: 0 or the refusal), .. 103 bytes in all."; "length (a hull's by its V, H, F as sent)"
-    ∷ is (length (answerBytes (accepted emptyContact cache))) 103
-    ∷ row (answer (call 3 96)) (103 ∷ 0x92 ∷ 0 ∷ []) ∷ row (answer (call 4 96)) (103 ∷ 0x92 ∷ 1 ∷ [])
+    -- "Answer: 92, status (a byte: 0 or the refusal), .. 103 bytes in all.", and the mark, "a last byte in frame 92"; "length (a hull's by its V, H, F as
+    -- sent)"
+    ∷ is (length (answerBytes (accepted 0 emptyContact cache))) 104 ∷ is (getD (answerBytes (accepted 7 emptyContact cache)) 103 0) 7
+    ∷ row (answer (call 3 96)) (104 ∷ 0x92 ∷ 0 ∷ []) ∷ row (answer (call 4 96)) (104 ∷ 0x92 ∷ 1 ∷ [])
     ∷ row (answer (call 3 95)) (fault 0x23) ∷ row (answer (call 3 97)) (fault 0x23)
     -- hull A of one vertex asks for 49 bytes more, of one half-edge for 4, of one face for 17; hull B likewise
-    ∷ row (answer (set (call 3 96) 42 1)) (fault 0x23) ∷ row (answer (set (call 3 145) 42 1)) (103 ∷ 0x92 ∷ 0 ∷ [])
-    ∷ row (answer (set (call 3 100) 44 1)) (103 ∷ 0x92 ∷ 0 ∷ []) ∷ row (answer (set (call 3 113) 46 1)) (103 ∷ 0x92 ∷ 0 ∷ [])
-    ∷ row (answer (set (call 3 145) 72 1)) (103 ∷ 0x92 ∷ 0 ∷ []) ∷ row (answer (set (call 3 144) 72 1)) (fault 0x23)
+    ∷ row (answer (set (call 3 96) 42 1)) (fault 0x23) ∷ row (answer (set (call 3 145) 42 1)) (104 ∷ 0x92 ∷ 0 ∷ [])
+    ∷ row (answer (set (call 3 100) 44 1)) (104 ∷ 0x92 ∷ 0 ∷ []) ∷ row (answer (set (call 3 113) 46 1)) (104 ∷ 0x92 ∷ 0 ∷ [])
+    ∷ row (answer (set (call 3 145) 72 1)) (104 ∷ 0x92 ∷ 0 ∷ []) ∷ row (answer (set (call 3 144) 72 1)) (fault 0x23)
     -- "capacity is signed"
     ∷ row (away (signed 0x7fff_ffff)) (0 ∷ 0x7fff_ffff ∷ []) ∷ row (away (signed 0x8000_0000)) (1 ∷ 0x7fff_ffff ∷ [])
     ∷ row (away (signed 0xffff_ffff)) (1 ∷ 0 ∷ [])

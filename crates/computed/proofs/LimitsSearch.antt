@@ -1,6 +1,6 @@
 -- Both sides of each limit and tie of the axis search, one row each. Assumes nothing.
 use mathlib.Core.Path.{_≡_, refl}
-use mathlib.Core.Bool.{Bool, true, false}
+use mathlib.Core.Bool.{Bool}
 use mathlib.Core.List.{List, [], _∷_, _++_}
 use Prim.Native.Nat.{ℕ}
 use lib.ListN.{getD, replicate}
@@ -35,23 +35,23 @@ ones = vec 0x3f80_0000 0x3f80_0000 0x3f80_0000
 abbrev along-x : Vec3
 along-x = vec 0x3f80_0000 0 0
 
--- a new best at this separation, with numbers 7 and 9, after one at 1 with numbers 3 and 5
+-- a new best at this separation, with numbers 7 and 9, after one at 2^-7, below speculative, with numbers 3 and 5
 abbrev first : Lead
-first = betterOf false none (float 0x3f80_0000) 3 5 noneOf
+first = betterOf none (float 0x3c00_0000) 3 5 noneOf
 
 abbrev second : ℕ → Lead
-second separation = betterOf false none (float separation) 7 9 first
+second separation = betterOf none (float separation) 7 9 first
 
--- the first of all, at this separation, where an early stop is asked for
+-- the first of all, at this separation
 abbrev alone : ℕ → Lead
-alone separation = betterOf true none (float separation) 7 9 noneOf
+alone separation = betterOf none (float separation) 7 9 noneOf
 
 -- separations speculative, one bit more, and 1, one after the other
 abbrev rising : List Float
 rising = float 0x3ca3_d70a ∷ float 0x3ca3_d70b ∷ float 0x3f80_0000 ∷ []
 
-abbrev searched : Bool → Lead
-searched early = leadAfter (λ (i : ℕ) (lead : Lead). betterOf early none (getD rising i nan) i 0 lead) noneOf 3
+abbrev searched : Lead
+searched = leadAfter (λ (i : ℕ) (lead : Lead). betterOf none (getD rising i nan) i 0 lead) noneOf 3
 
 -- the answer in one number: the type of an axis apart, 0 where faces are found
 abbrev told : Search → ℕ
@@ -103,13 +103,13 @@ table =
     -- the search begins at minus infinity with nothing found, and a new best is strictly greater
     ∷ is (bits (noneOf .separation)) 0xff80_0000 ∷ no (noneOf .found) ∷ no (noneOf .apart)
     ∷ yes (alone 0xff7f_ffff .found) ∷ no (alone 0xff80_0000 .found) ∷ no (alone 0x7fc0_0000 .found)
-    ∷ is (second 0x3f80_0000 .«index_a») 3 ∷ is (second 0x3f80_0001 .«index_a») 7 ∷ is (second 0x3f7f_ffff .«index_a») 3
-    ∷ is (second 0x7fc0_0000 .«index_a») 3 ∷ is (second 0x3f80_0000 .«index_b») 5 ∷ is (second 0x3f80_0001 .«index_b») 9
-    -- "It stops at the first new best strictly above speculative.", where an early stop is asked for
-    ∷ no (stopsOf true (float 0x3ca3_d709)) ∷ no (stopsOf true (float 0x3ca3_d70a)) ∷ yes (stopsOf true (float 0x3ca3_d70b))
-    ∷ no (stopsOf false (float 0x3ca3_d70b)) ∷ no (stopsOf true (float 0x7fc0_0000)) ∷ yes (stopsOf true (float 0x7f80_0000))
-    ∷ no (alone 0x3ca3_d70a .apart) ∷ yes (alone 0x3ca3_d70a .found) ∷ yes (alone 0x3ca3_d70b .apart) ∷ no (second 0x7f7f_ffff .apart)
-    ∷ is (searched true .«index_a») 1 ∷ is (searched false .«index_a») 2
+    ∷ is (second 0x3c00_0000 .«index_a») 3 ∷ is (second 0x3c00_0001 .«index_a») 7 ∷ is (second 0x3bff_ffff .«index_a») 3
+    ∷ is (second 0x7fc0_0000 .«index_a») 3 ∷ is (second 0x3c00_0000 .«index_b») 5 ∷ is (second 0x3c00_0001 .«index_b») 9
+    -- "It stops at the first new best strictly above speculative."
+    ∷ no (stopsOf (float 0x3ca3_d709)) ∷ no (stopsOf (float 0x3ca3_d70a)) ∷ yes (stopsOf (float 0x3ca3_d70b))
+    ∷ no (stopsOf (float 0x7fc0_0000)) ∷ yes (stopsOf (float 0x7f80_0000))
+    ∷ no (alone 0x3ca3_d70a .apart) ∷ yes (alone 0x3ca3_d70a .found) ∷ yes (alone 0x3ca3_d70b .apart) ∷ yes (second 0x7f7f_ffff .apart)
+    ∷ is (searched .«index_a») 1
     -- "an axis apart with its separation": a stop among A's faces, then B's, then the pairs
     ∷ is (told (searchAnswerOf (alone 0x3f80_0000) (alone 0x4000_0000) (alone 0x4000_0000))) 2
     ∷ is (told (searchAnswerOf first (alone 0x4000_0000) (alone 0x4000_0000))) 3

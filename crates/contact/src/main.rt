@@ -4,6 +4,7 @@ ghost use mathlib.Core.Bool.{true, false};
 ghost use mathlib.Core.Path.{_≡_};
 ghost use Prim.Native.Nat.{_-_, _≤_, _<_};
 ghost use lib.ListN.{length, take};
+ghost use Rattle.stream_pending.specs.Ends.{longestTold};
 ghost use Rattle.stream_pending.specs.Held.{Ready, nothing};
 ghost use Rattle.contact.specs.Goes.{Goes};
 use stream::tell_last;
@@ -28,7 +29,7 @@ pub struct Sent {
 
 // What was read, to its end or until the room is used up, and one write.
 fn send_part(chunk: &[u8], line: &mut [u8], p: Pending, out: &mut [u8]) -> Sent
-    requires { ⌜ (0 < length (now chunk)) × Ready (now line) p × (207 ≤ length (now out)) ⌝ }
+    requires { ⌜ (0 < length (now chunk)) × Ready (now line) p × (longestTold ≤ length (now out)) ⌝ }
     ensures { λ r. ⌜ (0 < r .taken) × (r .taken ≤ length (now (chunk .entry))) × Ready (now (line .exit)) (r .held)
         × Goes (take (r .taken) (now (chunk .entry))) (now (line .entry)) p (now (line .exit)) (r .held) ⌝ }
 {
@@ -62,7 +63,7 @@ pub struct Turn {
 
 // All that was read.
 fn send_all(chunk: &[u8], line: &mut [u8], p: Pending, out: &mut [u8]) -> Turn
-    requires { ⌜ Ready (now line) p × (207 ≤ length (now out)) ⌝ }
+    requires { ⌜ Ready (now line) p × (longestTold ≤ length (now out)) ⌝ }
     ensures { λ r. ⌜ Ready (now (line .exit)) (r .held) × (r .more ≡ true → Goes (now (chunk .entry)) (now (line .entry)) p (now (line .exit)) (r .held))
         × (r .more ≡ false → nothing (r .held) ≡ true) ⌝ }
 {
@@ -94,7 +95,7 @@ fn send_all(chunk: &[u8], line: &mut [u8], p: Pending, out: &mut [u8]) -> Turn
 
 // One read. A read that fails ends the input.
 fn turn_once(chunk: &mut [u8], line: &mut [u8], p: Pending, out: &mut [u8]) -> Turn
-    requires { ⌜ Ready (now line) p × (207 ≤ length (now out)) ⌝ }
+    requires { ⌜ Ready (now line) p × (longestTold ≤ length (now out)) ⌝ }
     ensures { λ r. ⌜ Ready (now (line .exit)) (r .held) ⌝ }
 {
     let got = libc::read(0, chunk);
@@ -118,7 +119,7 @@ fn fewer(turns: u64, more: bool) -> u64
 
 // A proved loop has to end, and nothing says that the input does: the turns are counted down from a number that no run uses up.
 fn run(chunk: &mut [u8], line: &mut [u8], out: &mut [u8])
-    requires { ⌜ (length (now line) ≡ 20000) × (207 ≤ length (now out)) ⌝ }
+    requires { ⌜ (length (now line) ≡ 20000) × (longestTold ≤ length (now out)) ⌝ }
 {
     let mut p = Pending {
         len: 0,

@@ -16,7 +16,7 @@ use Rattle.hull_links.specs.declared.HullSize.{HullSize}
 use Rattle.collide_outcome.specs.declared.Built.{Built}
 use Rattle.collide_outcome.specs.declared.Cached.{Cached}
 use Rattle.collide_refusals.specs.Refusals.{refusalOf}
-use Rattle.collide_outcome.specs.Answers.{accepted, refusedOf, answerOf}
+use Rattle.collide_outcome.specs.Answers.{retiredOf, accepted, refusedOf, answerOf}
 use Rattle.collide.specs.Call.{afterCached, workedOf, collideOf}
 
 -- an answer that refuses has an empty contact and this cache
@@ -25,35 +25,33 @@ pub record Keeps (c : SatCache) (a : Answer) : Type 0 where
   pub same : (a .outcome .status ≡ 0 → ⊥) → a .cache ≡ c
 
 module _ (c : SatCache) where
-  keeps-accepted : (contact : Contact) (next : SatCache) → Keeps c (accepted contact next)
-  keeps-accepted contact next = record { empty = λ h. absurd (h refl); same = λ h. absurd (h refl) }
+  keeps-accepted : (mark : ℕ) (contact : Contact) (next : SatCache) → Keeps c (accepted mark contact next)
+  keeps-accepted mark contact next = record { empty = λ h. absurd (h refl); same = λ h. absurd (h refl) }
 
   keeps-refused : (number : ℕ) → Keeps c (refusedOf number c)
   keeps-refused number = record { empty = λ h. refl; same = λ h. refl }
 
   keeps-answer : (built : Built) → Keeps c (answerOf c built)
   unfolding answerOf
-  keeps-answer built = picked (Keeps c) (eqb (built .status) 0) (keeps-accepted (built .contact) (built .cache)) (keeps-refused (built .status))
+  keeps-answer built =
+      picked (Keeps c) (eqb (built .status) 0) (keeps-accepted (retiredOf (c .kind)) (built .contact) (built .cache)) (keeps-refused (built .status))
 
   module _ (s : HullSize) (n : List Float) (l : List ℕ) (t : HullSize) (m : List Float) (k : List ℕ) (x : Transform) where
     keeps-cached : (cached : Cached) → Keeps c (afterCached s n l t m k x c cached)
     unfolding afterCached
     keeps-cached cached =
         picked (Keeps c) (eqb (cached .status) 0)
-        (picked (Keeps c) (cached .hit) (keeps-accepted (cached .contact) (hitSet 1 c)) (keeps-answer _)) (keeps-refused (cached .status))
+        (picked (Keeps c) (cached .hit) (keeps-accepted 0 (cached .contact) (hitSet 1 c)) (keeps-answer _)) (keeps-refused (cached .status))
 
     keeps-worked : Keeps c (workedOf s n l t m k x c)
     unfolding workedOf
     keeps-worked =
         picked (Keeps c) (eqb (c .kind) 2) (keeps-cached _)
         (picked (Keeps c) (eqb (c .kind) 3) (keeps-cached _)
-        (picked (Keeps c) (eqb (c .kind) 4) (keeps-cached _)
-        (picked (Keeps c) (eqb (c .kind) 6) (keeps-answer _)
-        (picked (Keeps c) (eqb (c .kind) 7) (keeps-answer _)
-        (picked (Keeps c) (eqb (c .kind) 8) (keeps-answer _) (keeps-answer _))))))
+        (picked (Keeps c) (eqb (c .kind) 4) (keeps-cached _) (keeps-answer _)))
 
     pub keeps-call : (capacity : ℤ) → Keeps c (collideOf s n l t m k x capacity c)
     unfolding collideOf
     keeps-call capacity =
-        picked (Keeps c) (ltZ capacity (pos 4)) (keeps-accepted emptyContact c)
+        picked (Keeps c) (ltZ capacity (pos 4)) (keeps-accepted 0 emptyContact c)
         (picked (Keeps c) (eqb (refusalOf s n l t m k x c) 0) keeps-worked (keeps-refused (refusalOf s n l t m k x c)))

@@ -1,4 +1,4 @@
--- How long an answer is: at most 103 bytes, 206 characters. Assumes nothing.
+-- How long an answer is at the most, in bytes and in characters. Assumes nothing.
 use Prim.Native.Nat.{ℕ, _*_, _<_, _≤_}
 use mathlib.Core.Path.{_≡_, refl, sym, ap}
 use mathlib.Core.Bool.{Bool, true, false, cond}
@@ -11,7 +11,7 @@ use Rattle.manifold.specs.declared.Answer.{Answer}
 use Rattle.manifold.specs.declared.pairs.Flipped.{Flipped}
 use Rattle.manifold.specs.Pairs.{flipOf}
 use Rattle.frame_encode.specs.Written.{Wrote}
-use Rattle.frame_encode.specs.Bytes.{floatBytes, pairBytes, answerBytes}
+use Rattle.frame_encode.specs.Bytes.{floatBytes, pairBytes, answerBytes, longestAnswer}
 use Rattle.frame_encode.proofs.Written.{wrote-same}
 use Rattle.frame_decode.specs.Fields.{floatAt, pairAt}
 use Rattle.frame_hex.specs.Hex.{hexLine, bytesOf, hexOf}
@@ -19,39 +19,39 @@ use Rattle.frame_hex.proofs.Bytes.{hex-length}
 use Rattle.frame_call.specs.Requests.{callLength, callOf}
 use Rattle.frame.specs.Answers.{Answers}
 use Rattle.frame.specs.Frames.{faultOf, rootAnswer, flippedAnswer, flipAnswer, callAnswer, frameAnswer}
-use Rattle.frame.specs.Lines.{answeredOf, lineAnswer}
+use Rattle.frame.specs.Lines.{answeredOf, lineAnswer, longestLineAnswer}
 use Rattle.frame.proofs.Puts.{put, line-over, answer-first}
 
-either : (b : Bool) (vs ws : List ℕ) → length vs ≤ 103 → length ws ≤ 103 → length (cond b vs ws) ≤ 103
+either : (b : Bool) (vs ws : List ℕ) → length vs ≤ longestAnswer → length ws ≤ longestAnswer → length (cond b vs ws) ≤ longestAnswer
 either true vs ws l m = l
 either false vs ws l m = m
 
-fault-short : (number : ℕ) → length (faultOf number) ≤ 103
+fault-short : (number : ℕ) → length (faultOf number) ≤ longestAnswer
 fault-short number = omega arith
 
-pub answer-length : (a : Answer) → length (answerBytes a) ≡ 103
+pub answer-length : (a : Answer) → length (answerBytes a) ≡ longestAnswer
 unfolding answerBytes
 answer-length a = refl
 
-root-short : (f : List ℕ) → length (rootAnswer f) ≤ 103
+root-short : (f : List ℕ) → length (rootAnswer f) ≤ longestAnswer
 unfolding rootAnswer
 root-short f = either (eqb (length f) 5) (0x90 ∷ floatBytes (rootOf (floatAt f 1))) (faultOf 0x23) (omega arith) (fault-short 0x23)
 
-flipped-short : (r : Flipped) → length (flippedAnswer r) ≤ 103
+flipped-short : (r : Flipped) → length (flippedAnswer r) ≤ longestAnswer
 unfolding flippedAnswer
 flipped-short r = either (eqb (r .status) 0) (0x91 ∷ pairBytes (r .pair)) (faultOf 0x08) (omega arith) (fault-short 0x08)
 
-flip-short : (f : List ℕ) → length (flipAnswer f) ≤ 103
+flip-short : (f : List ℕ) → length (flipAnswer f) ≤ longestAnswer
 unfolding flipAnswer
 flip-short f = either (eqb (length f) 5) (flippedAnswer (flipOf (pairAt f 1))) (faultOf 0x23) (flipped-short (flipOf (pairAt f 1))) (fault-short 0x23)
 
-call-short : (f : List ℕ) → length (callAnswer f) ≤ 103
+call-short : (f : List ℕ) → length (callAnswer f) ≤ longestAnswer
 unfolding callAnswer
 call-short f =
     let whole = answer-length (callOf f) in
     either (eqb (length f) (callLength f)) (answerBytes (callOf f)) (faultOf 0x23) (omega arith) (fault-short 0x23)
 
-pub frame-length : (f : List ℕ) → length (frameAnswer f) ≤ 103
+pub frame-length : (f : List ℕ) → length (frameAnswer f) ≤ longestAnswer
 unfolding frameAnswer
 frame-length [] = fault-short 0x22
 frame-length (k ∷ f) =
@@ -59,13 +59,13 @@ frame-length (k ∷ f) =
     (either (eqb k 0x11) (flipAnswer (k ∷ f)) _ (flip-short (k ∷ f)) (either (eqb k 0x12) (callAnswer (k ∷ f)) (faultOf 0x22) (call-short (k ∷ f))
     (fault-short 0x22)))
 
-pub answered-length : (line : List ℕ) → length (answeredOf line) ≤ 103
+pub answered-length : (line : List ℕ) → length (answeredOf line) ≤ longestAnswer
 unfolding answeredOf
 answered-length line =
     either (ltb 20000 (length line)) (faultOf 0x24) _ (fault-short 0x24)
     (either (hexLine line) (frameAnswer (bytesOf line)) (faultOf 0x21) (frame-length (bytesOf line)) (fault-short 0x21))
 
-pub line-length : (line : List ℕ) → length (lineAnswer line) ≤ 206
+pub line-length : (line : List ℕ) → length (lineAnswer line) ≤ longestLineAnswer
 unfolding lineAnswer
 line-length line = let chars = hex-length (answeredOf line) in let bytes = answered-length line in omega arith
 
@@ -75,7 +75,7 @@ unfolding lineAnswer
 line-long line h = ap hexOf (sym (line-over line h))
 
 -- the characters of an answer's bytes are the line's answer
-pub line-answers : (line : List ℕ) {o m s t : List ℕ} {n : ℕ} → Answers (answeredOf line) o n m → Wrote s 0 (hexOf (take n m)) t → 206 ≤ length s
+pub line-answers : (line : List ℕ) {o m s t : List ℕ} {n : ℕ} → Answers (answeredOf line) o n m → Wrote s 0 (hexOf (take n m)) t → longestLineAnswer ≤ length s
     → Answers (lineAnswer line) s (2 * n) t
 unfolding lineAnswer
 line-answers line {n = n} a w l =

@@ -1,9 +1,10 @@
 -- The answer to one line of characters: document 01's section "The hex program". Definitions only.
-use Prim.Native.Nat.{ℕ}
+use Prim.Native.Nat.{ℕ, _*_}
 use mathlib.Core.Bool.{cond}
 use mathlib.Core.List.{List}
 use lib.Dec.{ltb}
 use lib.ListN.{length}
+use Rattle.frame_encode.specs.Bytes.{longestAnswer}
 use Rattle.frame_hex.specs.Hex.{hexLine, bytesOf, hexOf}
 use Rattle.frame.specs.Frames.{faultOf, frameAnswer}
 
@@ -13,3 +14,7 @@ answeredOf line = cond (ltb 20000 (length line)) (faultOf 0x24) (cond (hexLine l
 
 unfoldable pub lineAnswer : List ℕ → List ℕ
 lineAnswer line = hexOf (answeredOf line)
+
+-- how many characters it has at the most
+abbrev pub longestLineAnswer : ℕ
+longestLineAnswer = 2 * longestAnswer

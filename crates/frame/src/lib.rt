@@ -1,9 +1,10 @@
 // The answer to one frame of bytes, and to one line of characters, exactly as document 01's section "The hex program" has them (specs/Frames.antt,
-// specs/Lines.antt). A frame is 1 to any number of bytes, its kind first; an answer is 2, 5 or 103.
+// specs/Lines.antt). A frame is 1 to any number of bytes, its kind first; an answer is 2, 5 or 104.
 pub mod lines;
 
 ghost use Prim.Native.Nat.{_≤_};
 ghost use lib.ListN.{length};
+ghost use Rattle.frame_encode.specs.Bytes.{longestAnswer};
 ghost use Rattle.frame.specs.Answers.{Answers};
 ghost use Rattle.frame.specs.Frames.{faultOf, rootAnswer, flippedAnswer, flipAnswer, callAnswer, frameAnswer};
 use frame_call::call_of;
@@ -11,6 +12,7 @@ use frame_decode::float_at;
 use frame_decode::hulls::hull_length;
 use frame_decode::pair_at;
 use frame_decode::size_at;
+use frame_encode::LONGEST_ANSWER;
 use frame_encode::put_answer;
 use frame_encode::put_byte;
 use frame_encode::put_float;
@@ -21,7 +23,7 @@ use root::root;
 
 // ff and the fault's number.
 fn put_fault(answer: &mut [u8], number: u8) -> usize
-    requires { ⌜ 103 ≤ length (now answer) ⌝ }
+    requires { ⌜ longestAnswer ≤ length (now answer) ⌝ }
     ensures { λ r. ⌜ Answers (faultOf number) (now (answer .entry)) r (now (answer .exit)) ⌝ }
 {
     put_byte(answer, 0, 0xff);
@@ -31,7 +33,7 @@ fn put_fault(answer: &mut [u8], number: u8) -> usize
 
 // Kind 10.
 fn root_answer(frame: &[u8], answer: &mut [u8]) -> usize
-    requires { ⌜ 103 ≤ length (now answer) ⌝ }
+    requires { ⌜ longestAnswer ≤ length (now answer) ⌝ }
     ensures { λ r. ⌜ Answers (rootAnswer (now (frame .entry))) (now (answer .entry)) r (now (answer .exit)) ⌝ }
 {
     if frame.len() != 5 {
@@ -45,7 +47,7 @@ fn root_answer(frame: &[u8], answer: &mut [u8]) -> usize
 
 // A pair that was flipped, or refusal 8.
 fn flipped_answer(flipped: Flipped, answer: &mut [u8]) -> usize
-    requires { ⌜ 103 ≤ length (now answer) ⌝ }
+    requires { ⌜ longestAnswer ≤ length (now answer) ⌝ }
     ensures { λ r. ⌜ Answers (flippedAnswer flipped) (now (answer .entry)) r (now (answer .exit)) ⌝ }
 {
     if flipped.status != 0 {
@@ -59,7 +61,7 @@ fn flipped_answer(flipped: Flipped, answer: &mut [u8]) -> usize
 
 // Kind 11.
 fn flip_answer(frame: &[u8], answer: &mut [u8]) -> usize
-    requires { ⌜ 103 ≤ length (now answer) ⌝ }
+    requires { ⌜ longestAnswer ≤ length (now answer) ⌝ }
     ensures { λ r. ⌜ Answers (flipAnswer (now (frame .entry))) (now (answer .entry)) r (now (answer .exit)) ⌝ }
 {
     if frame.len() != 5 {
@@ -71,7 +73,7 @@ fn flip_answer(frame: &[u8], answer: &mut [u8]) -> usize
 
 // Kind 12. Each hull's length follows from the sizes that are sent, whatever they are: sizes that no hull has are refused by H1 and are no fault.
 fn call_answer(frame: &[u8], answer: &mut [u8]) -> usize
-    requires { ⌜ 103 ≤ length (now answer) ⌝ }
+    requires { ⌜ longestAnswer ≤ length (now answer) ⌝ }
     ensures { λ r. ⌜ Answers (callAnswer (now (frame .entry))) (now (answer .entry)) r (now (answer .exit)) ⌝ }
 {
     if frame.len() < 47 {
@@ -88,12 +90,12 @@ fn call_answer(frame: &[u8], answer: &mut [u8]) -> usize
     }
     let called = call_of(frame, size_a, at, size_b);
     put_answer(answer, called);
-    103
+    LONGEST_ANSWER
 }
 
 // The answer to a frame.
 pub fn frame_answer(frame: &[u8], answer: &mut [u8]) -> usize
-    requires { ⌜ 103 ≤ length (now answer) ⌝ }
+    requires { ⌜ longestAnswer ≤ length (now answer) ⌝ }
     ensures { λ r. ⌜ Answers (frameAnswer (now (frame .entry))) (now (answer .entry)) r (now (answer .exit)) ⌝ }
 {
     if frame.len() == 0 {

@@ -49,7 +49,7 @@ first-of-two false rest = refl
 module _ (s : HullSize) (l : List ℕ) (t : HullSize) (k : List ℕ) (x : Transform) (capacity : ℤ) (cache : SatCache) where
   -- a call with this refusal
   refused : (n m : List Float) (number : ℕ) → refusalOf s n l t m k x cache ≡ number → (number ≡ 0 → ⊥)
-      → collideOf s n l t m k x capacity cache ≡ cond (ltZ capacity (pos 4)) (accepted emptyContact cache) (refusedOf number cache)
+      → collideOf s n l t m k x capacity cache ≡ cond (ltZ capacity (pos 4)) (accepted 0 emptyContact cache) (refusedOf number cache)
   unfolding collideOf
   refused n m number e z = rw (e, ne-eqb number 0 z)
 

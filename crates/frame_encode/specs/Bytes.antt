@@ -48,6 +48,10 @@ pointAt k i = getD (k .points) i pastPoint
 abbrev pub pointsBytes : Contact → List ℕ
 pointsBytes k = pointBytes (pointAt k 0) ++ (pointBytes (pointAt k 1) ++ (pointBytes (pointAt k 2) ++ pointBytes (pointAt k 3)))
 
--- "103 bytes in all"
+-- and "a last byte in frame 92", the mark that a retired type was read (document 02, j)
 unfoldable pub answerBytes : Answer → List ℕ
-answerBytes a = headBytes a ++ pointsBytes (a .outcome .contact)
+answerBytes a = (headBytes a ++ pointsBytes (a .outcome .contact)) ++ (a .outcome .retired ∷ [])
+
+-- "103 bytes in all", and the mark: no answer is longer
+abbrev pub longestAnswer : ℕ
+longestAnswer = 104

@@ -4,7 +4,8 @@ ghost use Prim.Native.Nat.{_+_, _≤_};
 ghost use mathlib.Core.List.{[], _∷_};
 ghost use lib.ListN.{length};
 ghost use Rattle.frame_encode.specs.Written.{Wrote};
-ghost use Rattle.frame_encode.specs.Bytes.{bytes32, floatBytes, vecBytes, pairBytes, pointBytes, pointsBytes, cacheBytes, headBytes, answerBytes};
+ghost use Rattle.frame_encode.specs.Bytes.{bytes32, floatBytes, vecBytes, pairBytes, pointBytes, pointsBytes, cacheBytes, headBytes, longestAnswer};
+ghost use Rattle.frame_encode.specs.Bytes.{answerBytes};
 use manifold::Answer;
 use manifold::Contact;
 use manifold::FeaturePair;
@@ -12,6 +13,9 @@ use manifold::Point;
 use manifold::SatCache;
 use manifold::bits::bits_of;
 use vector::Vec3;
+
+// How many bytes the longest answer has: that to a call.
+pub const LONGEST_ANSWER: usize = 104;
 
 pub fn put_byte(out: &mut [u8], at: usize, b: u8)
     requires { ⌜ at + 1 ≤ length (now out) ⌝ }
@@ -82,7 +86,7 @@ pub fn put_cache(out: &mut [u8], at: usize, c: SatCache)
 
 // 92, the status, the cache, the count and the normal.
 fn put_head(out: &mut [u8], a: Answer)
-    requires { ⌜ 103 ≤ length (now out) ⌝ }
+    requires { ⌜ longestAnswer ≤ length (now out) ⌝ }
     ensures { λ _. ⌜ Wrote (now (out .entry)) 0 (headBytes a) (now (out .exit)) ⌝ }
 {
     put_byte(out, 0, 0x92);
@@ -96,7 +100,7 @@ fn put_head(out: &mut [u8], a: Answer)
 
 // The four places of points, those at and above the count too.
 fn put_points(out: &mut [u8], k: Contact)
-    requires { ⌜ 103 ≤ length (now out) ⌝ }
+    requires { ⌜ longestAnswer ≤ length (now out) ⌝ }
     ensures { λ _. ⌜ Wrote (now (out .entry)) 23 (pointsBytes k) (now (out .exit)) ⌝ }
 {
     let points = k.points;
@@ -110,12 +114,13 @@ fn put_points(out: &mut [u8], k: Contact)
     put_point(out, 83, fourth);
 }
 
-// The answer to a call: 103 bytes.
+// The answer to a call: the head, the points, and last the mark of a retired type.
 pub fn put_answer(out: &mut [u8], a: Answer)
-    requires { ⌜ 103 ≤ length (now out) ⌝ }
+    requires { ⌜ longestAnswer ≤ length (now out) ⌝ }
     ensures { λ _. ⌜ Wrote (now (out .entry)) 0 (answerBytes a) (now (out .exit)) ⌝ }
 {
     put_head(out, a);
     let contact = a.outcome.contact;
     put_points(out, contact);
+    put_byte(out, 103, a.outcome.retired);
 }

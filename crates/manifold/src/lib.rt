@@ -63,11 +63,13 @@ pub struct Contact {
     pub count: u8,
 }
 
-// The status is 0, or the number of the refusal.
+// The status is 0, or the number of the refusal. The mark `retired` is 1 where the call was accepted, its capacity was 4 or more and the cache that it read
+// has a retired type (6, 7 or 8), else 0.
 #[repr(C)]
 pub struct Outcome {
     pub status: u8,
     pub contact: Contact,
+    pub retired: u8,
 }
 
 // What one call returns, and the next cache.

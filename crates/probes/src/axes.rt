@@ -108,11 +108,10 @@ pub extern "C" fn probe_compute_separating_axis(
     links_b: &[u8],
     size_b: HullSize,
     transform: Transform,
-    early: bool,
 ) -> Searched
     requires { ⌜ Accepted «size_a» (now «numbers_a») (now «links_a») × Accepted «size_b» (now «numbers_b») (now «links_b») × Placed transform ⌝ }
     ensures { λ r. ⌜ r ≡ searchedOf (searchOf «size_a» (now («numbers_a» .entry)) (now («links_a» .entry)) «size_b» (now («numbers_b» .entry))
-        (now («links_b» .entry)) transform early) ⌝ }
+        (now («links_b» .entry)) transform) ⌝ }
 {
     as_record(axis::compute_separating_axis(
         numbers_a,
@@ -122,6 +121,5 @@ pub extern "C" fn probe_compute_separating_axis(
         links_b,
         size_b,
         transform,
-        early,
     ))
 }

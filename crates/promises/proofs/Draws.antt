@@ -43,7 +43,6 @@ use Rattle.collide_outcome.specs.Served.{nearOf, servedOf}
 use Rattle.collide_cached.specs.Again.{separationFromA, separationFromB, cachedFaceAOf, cachedFaceBOf, cachedEdgeOf}
 use Rattle.collide_full.specs.Full.{triesEdge, pairContact, contactA, contactB, winnerContact, insteadOf, withEdge, foundContact, apartBuilt}
 use Rattle.collide_full.specs.Full.{afterSearch, fullOf}
-use Rattle.collide_manual.specs.Manual.{unchanged, afterFaceA, afterFaceB, pairOrNone, afterEdge, manualFaceAOf, manualFaceBOf, manualEdgeOf}
 use Rattle.collide_refusals.specs.Refusals.{refusalOf}
 use Rattle.collide_outcome.specs.Answers.{answerOf}
 use Rattle.collide.specs.Call.{afterCached, workedOf, collideOf}
@@ -175,7 +174,7 @@ module _ (s : HullSize) (n : List Float) (l : List ℕ) (t : HullSize) (m : List
   unfolding edgeContactOf alongOf touchedOf
   builds-edges normal a b = picked Builds (isWithinSegmentsOf (nearestOf s n l t m k x a b)) (draws-edges normal a b) draws-none
 
-  -- ---- the full and the manual searches
+  -- ---- the full search
   builds-axis-a : (a : Axis) → Builds (contactA s n l t m k x a)
   unfolding contactA
   builds-axis-a a = builds-a (a .«index_a») (a .«index_b»)
@@ -207,26 +206,6 @@ module _ (s : HullSize) (n : List Float) (l : List ℕ) (t : HullSize) (m : List
   unfolding afterSearch apartBuilt
   after (Search.Apart a) = draws-none
   after (Search.Found f) = builds-found (f .«face_a») (f .«face_b») (f .edge)
-
-  after-a : (search : Search) → Builds (afterFaceA s n l t m k x search)
-  unfolding afterFaceA apartBuilt
-  after-a (Search.Apart a) = draws-none
-  after-a (Search.Found f) = builds-axis-a (f .«face_a»)
-
-  after-b : (search : Search) → Builds (afterFaceB s n l t m k x search)
-  unfolding afterFaceB apartBuilt
-  after-b (Search.Apart a) = draws-none
-  after-b (Search.Found f) = builds-axis-b (f .«face_b»)
-
-  after-pair : (cache : SatCache) (edge : EdgeAxis) → Builds (pairOrNone s n l t m k x cache edge)
-  unfolding pairOrNone unchanged
-  after-pair cache (EdgeAxis.Pair e) = builds-pair e
-  after-pair cache EdgeAxis.None = draws-none
-
-  after-edge : (cache : SatCache) (search : Search) → Builds (afterEdge s n l t m k x cache search)
-  unfolding afterEdge apartBuilt
-  after-edge cache (Search.Apart a) = draws-none
-  after-edge cache (Search.Found f) = after-pair cache (f .edge)
 
   builds-full : Builds (fullOf s n l t m k x)
   unfolding fullOf
@@ -271,14 +250,12 @@ module _ (s : HullSize) (n : List Float) (l : List ℕ) (t : HullSize) (m : List
   answers-cached cache cached d = picked Answers (eqb (cached .status) 0) (picked Answers (cached .hit) d (answers cache _ builds-full)) draws-none
 
   answers-worked : (cache : SatCache) → Answers (workedOf s n l t m k x cache)
-  unfolding workedOf manualFaceAOf manualFaceBOf manualEdgeOf
+  unfolding workedOf
   answers-worked cache =
       picked Answers (eqb (cache .kind) 2) (answers-cached cache _ (serves-a cache))
       (picked Answers (eqb (cache .kind) 3) (answers-cached cache _ (serves-b cache))
       (picked Answers (eqb (cache .kind) 4) (answers-cached cache _ (serves-edge cache))
-      (picked Answers (eqb (cache .kind) 6) (answers cache _ (after-a _))
-      (picked Answers (eqb (cache .kind) 7) (answers cache _ (after-b _))
-      (picked Answers (eqb (cache .kind) 8) (answers cache _ (after-edge cache _)) (answers cache _ builds-full))))))
+      (answers cache _ builds-full)))
 
   pub answers-call : (capacity : ℤ) (cache : SatCache) → Answers (collideOf s n l t m k x capacity cache)
   unfolding collideOf

@@ -20,7 +20,7 @@ use Rattle.clip.specs.Candidates.{candidatesOf}
 use Rattle.axis.specs.declared.Axis.{Axis}
 use Rattle.axis.specs.declared.Search.{Search}
 use Rattle.collide_cached.specs.Again.{separationFromA, separationFromB, cachedFaceAOf, cachedFaceBOf, cachedEdgeOf}
-use Rattle.promises.specs.Numbers.{firstGiven, faceMeets, meetsOnA, meetsOnB, axisMeetsA, axisMeetsB, winnerMeets, searchMeetsA, searchMeetsB}
+use Rattle.promises.specs.Numbers.{firstGiven, faceMeets, meetsOnA, meetsOnB, axisMeetsA, axisMeetsB, winnerMeets}
 use Rattle.promises.specs.Numbers.{fullMeets, cachedMeetsA, cachedMeetsB, workMeets}
 
 -- ---- tests in their order: which one the number of the first that fails names
@@ -91,16 +91,6 @@ module _ (P : ℕ → Type 0) (at-0 : P 0) (at-5 : P 5) (at-6 : P 6) where
     winner-has (Search.Apart a) = at-0
     winner-has (Search.Found f) = picked P (Ieee.lt (f .«face_b» .separation) (f .«face_a» .separation)) (axis-a (f .«face_a»)) (axis-b (f .«face_b»))
 
-    search-a-has : (search : Search) → P (searchMeetsA s n l t m k x search)
-    unfolding searchMeetsA
-    search-a-has (Search.Apart a) = at-0
-    search-a-has (Search.Found f) = axis-a (f .«face_a»)
-
-    search-b-has : (search : Search) → P (searchMeetsB s n l t m k x search)
-    unfolding searchMeetsB
-    search-b-has (Search.Apart a) = at-0
-    search-b-has (Search.Found f) = axis-b (f .«face_b»)
-
     full-has : P (fullMeets s n l t m k x)
     unfolding fullMeets
     full-has = winner-has _
@@ -119,9 +109,7 @@ module _ (P : ℕ → Type 0) (at-0 : P 0) (at-5 : P 5) (at-6 : P 6) where
         picked P (eqb (cache .kind) 2) (first-has _ _ (cached-a-has (cache .«index_a»)) (picked P (cachedFaceAOf s n l t m k x cache .hit) at-0 full-has))
         (picked P (eqb (cache .kind) 3) (first-has _ _ (cached-b-has (cache .«index_b»)) (picked P (cachedFaceBOf s n l t m k x cache .hit) at-0 full-has))
         (picked P (eqb (cache .kind) 4) (picked P (cachedEdgeOf s n l t m k x cache .hit) at-0 full-has)
-        (picked P (eqb (cache .kind) 6) (search-a-has _)
-        (picked P (eqb (cache .kind) 7) (search-b-has _)
-        (picked P (eqb (cache .kind) 8) at-0 full-has)))))
+        full-has))
 
 -- ---- above 4 where not 0, and at most 6
 abbrev Late : ℕ → Type 0

@@ -1,8 +1,10 @@
 pub mod Statuses
 pub mod Draws
 pub mod Later
+pub mod Marks
 pub mod Refusals
 pub mod Steps
 pub mod Rounds
 pub mod Points
 pub mod Separations
+pub mod Retired

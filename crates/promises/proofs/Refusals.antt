@@ -172,7 +172,7 @@ module _ (s : HullSize) (n : List Float) (l : List ℕ) (t : HullSize) (m : List
     pub small-capacity : ltZ capacity (pos 4) ≡ true → (r .status ≡ 0) × (r .contact ≡ emptyContact) × (is ≡ was)
     unfolding collideOf
     small-capacity small =
-        let untouched : collideOf s n l t m k x capacity was ≡ accepted emptyContact was = rw small in (
+        let untouched : collideOf s n l t m k x capacity was ≡ accepted 0 emptyContact was = rw small in (
           ap (λ (o : Outcome). o .status) (called .answers) ∙ ap (λ (a : Answer). a .outcome .status) untouched,
           ap (λ (o : Outcome). o .contact) (called .answers) ∙ ap (λ (a : Answer). a .outcome .contact) untouched,
           called .updates ∙ ap (λ (a : Answer). a .cache) untouched,

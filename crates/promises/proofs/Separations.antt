@@ -73,10 +73,10 @@ module _ {unit : Float} (u : LengthUnit unit) where
       record {
         finite-a = separation-finite of-a true;
         finite-b = separation-finite of-b false;
-        first-a = λ early. first-best of-a early true;
-        first-b = λ early. first-best of-b early false;
-        found-a = λ early. found of-a early true;
-        found-b = λ early. found of-b early false;
+        first-a = first-best of-a true;
+        first-b = first-best of-b false;
+        found-a = found of-a true;
+        found-b = found of-b false;
       }
 
 -- ---- what is accepted is inside at unit 1

@@ -36,11 +36,10 @@ use Rattle.collide_outcome.specs.Served.{nearOf, servedOf}
 use Rattle.collide_cached.specs.Again.{separationFromA, separationFromB, cachedFaceAOf, cachedFaceBOf, cachedEdgeOf}
 use Rattle.collide_full.specs.Full.{apartBuilt, triesEdge, pairContact, contactA, contactB, winnerContact, insteadOf, withEdge, foundContact}
 use Rattle.collide_full.specs.Full.{afterSearch, fullOf}
-use Rattle.collide_manual.specs.Manual.{unchanged, afterFaceA, afterFaceB, pairOrNone, afterEdge, manualFaceAOf, manualFaceBOf, manualEdgeOf}
 use Rattle.collide_refusals.specs.Refusals.{refusalOf}
 use Rattle.collide_outcome.specs.Answers.{answerOf}
 use Rattle.collide.specs.Call.{afterCached, workedOf, collideOf}
-use Rattle.promises.specs.Numbers.{firstGiven, faceMeets, meetsOnA, meetsOnB, axisMeetsA, axisMeetsB, winnerMeets, searchMeetsA, searchMeetsB}
+use Rattle.promises.specs.Numbers.{firstGiven, faceMeets, meetsOnA, meetsOnB, axisMeetsA, axisMeetsB, winnerMeets}
 use Rattle.promises.specs.Numbers.{fullMeets, cachedMeetsA, cachedMeetsB, workMeets, numberOf}
 
 -- ---- the status of a choice, of what is built, of what is cached and of an answer
@@ -109,7 +108,7 @@ module _ (s : HullSize) (n : List Float) (l : List ℕ) (t : HullSize) (m : List
   unfolding contactB axisMeetsB
   status-axis-b b = status-b _ _
 
-  -- ---- the searches
+  -- ---- the full search
   fine-with : (built : Built) (edge : EdgeAxis) → Fine built → Fine (withEdge s n l t m k x built edge)
   unfolding withEdge insteadOf
   fine-with built (EdgeAxis.Pair e) q = picked Fine (triesEdge built e) (picked Fine (pairContact s n l t m k x e .touching) (status-pair e) q) q
@@ -130,26 +129,6 @@ module _ (s : HullSize) (n : List Float) (l : List ℕ) (t : HullSize) (m : List
   unfolding afterSearch apartBuilt winnerMeets
   after-status (Search.Apart a) = refl
   after-status (Search.Found f) = status-found _ _ _ ∙ status-winner (f .«face_a») (f .«face_b»)
-
-  after-a : (search : Search) → afterFaceA s n l t m k x search .status ≡ searchMeetsA s n l t m k x search
-  unfolding afterFaceA apartBuilt searchMeetsA
-  after-a (Search.Apart a) = refl
-  after-a (Search.Found f) = status-axis-a (f .«face_a»)
-
-  after-b : (search : Search) → afterFaceB s n l t m k x search .status ≡ searchMeetsB s n l t m k x search
-  unfolding afterFaceB apartBuilt searchMeetsB
-  after-b (Search.Apart a) = refl
-  after-b (Search.Found f) = status-axis-b (f .«face_b»)
-
-  fine-pair : (cache : SatCache) (edge : EdgeAxis) → Fine (pairOrNone s n l t m k x cache edge)
-  unfolding pairOrNone unchanged
-  fine-pair cache (EdgeAxis.Pair e) = status-pair e
-  fine-pair cache EdgeAxis.None = refl
-
-  after-edge : (cache : SatCache) (search : Search) → Fine (afterEdge s n l t m k x cache search)
-  unfolding afterEdge apartBuilt
-  after-edge cache (Search.Apart a) = refl
-  after-edge cache (Search.Found f) = fine-pair cache (f .edge)
 
   full-status : fullOf s n l t m k x .status ≡ fullMeets s n l t m k x
   unfolding fullOf fullMeets
@@ -184,14 +163,12 @@ module _ (s : HullSize) (n : List Float) (l : List ℕ) (t : HullSize) (m : List
 
   -- ---- the call
   work-status : (cache : SatCache) → workedOf s n l t m k x cache .outcome .status ≡ workMeets s n l t m k x cache
-  unfolding workedOf workMeets manualFaceAOf manualFaceBOf manualEdgeOf firstGiven
+  unfolding workedOf workMeets firstGiven
   work-status cache =
       answer-choice (eqb (cache .kind) 2) _ _ _ _ (after-cached cache _ _ (cached-a cache))
       (answer-choice (eqb (cache .kind) 3) _ _ _ _ (after-cached cache _ _ (cached-b cache))
       (answer-choice (eqb (cache .kind) 4) _ _ _ _ (after-cached cache _ 0 (cached-edge cache))
-      (answer-choice (eqb (cache .kind) 6) _ _ _ _ (answer-status cache _ ∙ after-a _)
-      (answer-choice (eqb (cache .kind) 7) _ _ _ _ (answer-status cache _ ∙ after-b _)
-      (answer-choice (eqb (cache .kind) 8) _ _ _ _ (answer-status cache _ ∙ after-edge cache _) (answer-status cache _ ∙ full-status))))))
+      (answer-status cache _ ∙ full-status)))
 
   pub call-status : (capacity : ℤ) (cache : SatCache) → collideOf s n l t m k x capacity cache .outcome .status ≡ numberOf s n l t m k x capacity cache
   unfolding collideOf numberOf firstGiven

@@ -28,9 +28,10 @@ use Rattle.collide_cached.specs.Ridges.{ridgeOf, carriedRidge, crossesOf, axisB
 use Rattle.collide_cached.specs.Again.{separationFromA, separationFromB, cachedFaceAOf, cachedFaceBOf, cachedEdgeOf}
 use Rattle.collide_full.specs.Full.{apartBuilt, afterSearch, fullOf}
 use Rattle.collide_refusals.specs.Refusals.{refusalOf}
-use Rattle.collide_outcome.specs.Answers.{accepted, answerOf}
+use Rattle.collide_outcome.specs.Answers.{retiredOf, accepted, answerOf}
 use Rattle.collide.specs.Call.{afterCached, collideOf}
 use Rattle.contactlib.specs.Lent.{Called}
+use Rattle.promises.specs.Retired.{NoAxis}
 use Rattle.collide.proofs.Steps.{call-worked, cached-hit, at-2, at-3, at-4, at-rest}
 
 -- ---- the lent call gives the definition's outcome and cache, and nothing else
@@ -48,31 +49,30 @@ module _ (a : Answer) (was : SatCache) (r : Outcome) (is : SatCache) (called : C
 -- ---- the steps, where the capacity is 4 or more and 1 to 4 are passed: hull A is (s, n, l), hull B is (t, m, k), and x places B in A's frame
 module _ (s : HullSize) (n : List Float) (l : List ℕ) (t : HullSize) (m : List Float) (k : List ℕ) (x : Transform) (capacity : ℤ) (cache : SatCache)
     (wide : ltZ capacity (pos 4) ≡ false) (right : refusalOf s n l t m k x cache ≡ 0) where
-  -- "Types 1, 5 and 9 to 255 act as type 0: full search."
-  pub full-search : (cache .kind ≡ 2 → ⊥) → (cache .kind ≡ 3 → ⊥) → (cache .kind ≡ 4 → ⊥) → (cache .kind ≡ 6 → ⊥) → (cache .kind ≡ 7 → ⊥)
-      → (cache .kind ≡ 8 → ⊥)
-      → collideOf s n l t m k x capacity cache ≡ answerOf cache (fullOf s n l t m k x)
-  full-search p2 p3 p4 p6 p7 p8 = sym (call-worked s n l t m k x cache capacity wide right) ∙ sym (at-rest s n l t m k x cache p2 p3 p4 p6 p7 p8)
+  -- types 1 and 5 to 255 act as type 0: full search
+  pub full-search : NoAxis (cache .kind) → collideOf s n l t m k x capacity cache ≡ answerOf cache (fullOf s n l t m k x)
+  full-search none =
+      sym (call-worked s n l t m k x cache capacity wide right) ∙ sym (at-rest s n l t m k x cache (none .not-2) (none .not-3) (none .not-4))
 
   -- an axis apart: no points, and the axis in the cache
-  pub apart-left : (a : Apart) → Search.Apart a ≡ searchOf s n l t m k x true → answerOf cache (fullOf s n l t m k x) ≡ accepted
-      emptyContact (cacheOf a)
+  pub apart-left : (a : Apart) → Search.Apart a ≡ searchOf s n l t m k x → answerOf cache (fullOf s n l t m k x)
+      ≡ accepted (retiredOf (cache .kind)) emptyContact (cacheOf a)
   unfolding fullOf afterSearch apartBuilt answerOf
   apart-left a e = ap (λ (z : Search). answerOf cache (afterSearch s n l t m k x z)) (sym e)
 
   -- a cached axis that serves again: "hit 1, done, other cache fields kept"
-  pub served : (cached : Cached) → cached .status ≡ 0 → cached .hit ≡ true → afterCached s n l t m k x cache cached ≡ accepted (cached .contact)
+  pub served : (cached : Cached) → cached .status ≡ 0 → cached .hit ≡ true → afterCached s n l t m k x cache cached ≡ accepted 0 (cached .contact)
       (hitSet 1 cache)
   served cached p q = sym (cached-hit s n l t m k x cache cached p q)
 
   -- "Type 2 or 3: .. At or above speculative: hit 1, no points."
   pub face-a-apart : cache .kind ≡ 2 → Ieee.le speculative (separationFromA s n t m x (cache .«index_a»)) ≡ true
-      → collideOf s n l t m k x capacity cache ≡ accepted emptyContact (hitSet 1 cache)
+      → collideOf s n l t m k x capacity cache ≡ accepted 0 emptyContact (hitSet 1 cache)
   unfolding cachedFaceAOf afterCached
   face-a-apart q h = sym (call-worked s n l t m k x cache capacity wide right) ∙ sym (at-2 s n l t m k x cache q) ∙ rw h
 
   pub face-b-apart : cache .kind ≡ 3 → Ieee.le speculative (separationFromB s n t m x (cache .«index_b»)) ≡ true
-      → collideOf s n l t m k x capacity cache ≡ accepted emptyContact (hitSet 1 cache)
+      → collideOf s n l t m k x capacity cache ≡ accepted 0 emptyContact (hitSet 1 cache)
   unfolding cachedFaceBOf afterCached
   face-b-apart q h = sym (call-worked s n l t m k x cache capacity wide right) ∙ sym (at-3 s n l t m k x cache q) ∙ rw h
 
@@ -80,7 +80,7 @@ module _ (s : HullSize) (n : List Float) (l : List ℕ) (t : HullSize) (m : List
   pub edge-apart : cache .kind ≡ 4
       → let a = ridgeOf s n l (cache .«index_a») in let b = carriedRidge x t m k (cache .«index_b») in
       crossesOf a b ≡ true → Ieee.lt speculative (dotOf (axisBetween a b) (subOf (a .end) (b .end))) ≡ true
-      → collideOf s n l t m k x capacity cache ≡ accepted emptyContact (hitSet 1 cache)
+      → collideOf s n l t m k x capacity cache ≡ accepted 0 emptyContact (hitSet 1 cache)
   unfolding cachedEdgeOf afterCached
   edge-apart q c h = sym (call-worked s n l t m k x cache capacity wide right) ∙ sym (at-4 s n l t m k x cache q) ∙ rw (c, h)
 

@@ -1,3 +1,4 @@
 pub mod Numbers
 pub mod Sources
 pub mod Separations
+pub mod Retired

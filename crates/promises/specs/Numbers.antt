@@ -1,6 +1,6 @@
 -- The number that a call gives, from document 01's table "Refusal numbers" and its order. Definitions only.
 use Prim.Native.Nat.{ℕ}
-use mathlib.Core.Bool.{not, true, false, cond}
+use mathlib.Core.Bool.{not, cond}
 use mathlib.Core.List.{List, [], _∷_}
 use mathlib.Core.Path.{_≡_}
 use lib.ListN.{length}
@@ -48,21 +48,13 @@ module _ (s : HullSize) (n : List Float) (l : List ℕ) (t : HullSize) (m : List
   unfoldable pub axisMeetsB : Axis → ℕ
   axisMeetsB b = meetsOnB (b .«index_b») (b .«index_a»)
 
-  -- the face that a search picks: the one that wins, face A or face B; an axis apart meets nothing
+  -- the face that the full search picks: the one that wins, face A or face B; an axis apart meets nothing
   unfoldable pub winnerMeets : Search → ℕ
   winnerMeets (Search.Apart a) = 0
   winnerMeets (Search.Found f) = cond (Ieee.lt (f .«face_b» .separation) (f .«face_a» .separation)) (axisMeetsA (f .«face_a»)) (axisMeetsB (f .«face_b»))
 
-  unfoldable pub searchMeetsA : Search → ℕ
-  searchMeetsA (Search.Apart a) = 0
-  searchMeetsA (Search.Found f) = axisMeetsA (f .«face_a»)
-
-  unfoldable pub searchMeetsB : Search → ℕ
-  searchMeetsB (Search.Apart a) = 0
-  searchMeetsB (Search.Found f) = axisMeetsB (f .«face_b»)
-
   unfoldable pub fullMeets : ℕ
-  fullMeets = winnerMeets (searchOf s n l t m k x true)
+  fullMeets = winnerMeets (searchOf s n l t m k x)
 
   -- the contact on a cached face that is not apart
   unfoldable pub cachedMeetsA : ℕ → ℕ
@@ -71,17 +63,13 @@ module _ (s : HullSize) (n : List Float) (l : List ℕ) (t : HullSize) (m : List
   unfoldable pub cachedMeetsB : ℕ → ℕ
   cachedMeetsB f = cond (Ieee.le speculative (separationFromB s n t m x f)) 0 (meetsOnB f (deepestBelowB s n t m x f))
 
-  -- "then .. 5, 6 as the work meets them": the work of each type; where a cached axis does not serve, the full search follows; a pair of edges alone
-  -- meets neither
+  -- "then .. 5, 6 as the work meets them": the work of each type; where a cached axis does not serve, the full search follows
   unfoldable pub workMeets : SatCache → ℕ
   workMeets cache =
       cond (eqb (cache .kind) 2) (firstGiven (cachedMeetsA (cache .«index_a»)) (cond (cachedFaceAOf s n l t m k x cache .hit) 0 fullMeets))
       (cond (eqb (cache .kind) 3) (firstGiven (cachedMeetsB (cache .«index_b»)) (cond (cachedFaceBOf s n l t m k x cache .hit) 0 fullMeets))
       (cond (eqb (cache .kind) 4) (cond (cachedEdgeOf s n l t m k x cache .hit) 0 fullMeets)
-      (cond (eqb (cache .kind) 6) (searchMeetsA (searchOf s n l t m k x false))
-      (cond (eqb (cache .kind) 7) (searchMeetsB (searchOf s n l t m k x false))
-      (cond (eqb (cache .kind) 8) 0
-      fullMeets)))))
+      fullMeets))
 
   -- "capacity below 4 comes first and is accepted .. Then 1, 2, 3, 4, then .. 5, 6": 0 is accepted
   unfoldable pub numberOf : ℤ → SatCache → ℕ

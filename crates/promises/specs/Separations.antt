@@ -61,20 +61,20 @@ module _ (s : HullSize) (n : List Float) (t : HullSize) (m : List Float) (x : Tr
   faceOfB = faceOf false (matrixOf (x .q)) (x .p) t m s n (centerOf (boxOf n)) (extentsOf (boxOf n))
 
   -- the best of the first i faces of A, and of B
-  abbrev pub bestOfA : Bool → ℕ → Lead
-  bestOfA early = leadAfter (λ f. faceTakenOf early true (faceOfA f) f) noneOf
+  abbrev pub bestOfA : ℕ → Lead
+  bestOfA = leadAfter (λ f. faceTakenOf true (faceOfA f) f) noneOf
 
-  abbrev pub bestOfB : Bool → ℕ → Lead
-  bestOfB early = leadAfter (λ f. faceTakenOf early false (faceOfB f) f) noneOf
+  abbrev pub bestOfB : ℕ → Lead
+  bestOfB = leadAfter (λ f. faceTakenOf false (faceOfB f) f) noneOf
 
-  -- what the request asks for, and what comes of it, whether or not the search may stop early
+  -- what the request asks for, and what comes of it
   pub record FacesFound : Type 0 where
     -- every face separation is a finite number
     pub finite-a : (f : ℕ) → f < s .faces → T (finite (faceOfA f .separation))
     pub finite-b : (f : ℕ) → f < t .faces → T (finite (faceOfB f .separation))
     -- the first face becomes the best: with its normal, its separation, its number and that of its vertex
-    pub first-a : (early : Bool) → bestOfA early 1 ≡ newBest early (faceOfA 0 .normal) (faceOfA 0 .separation) 0 (faceOfA 0 .vertex)
-    pub first-b : (early : Bool) → bestOfB early 1 ≡ newBest early (faceOfB 0 .normal) (faceOfB 0 .separation) (faceOfB 0 .vertex) 0
+    pub first-a : bestOfA 1 ≡ newBest (faceOfA 0 .normal) (faceOfA 0 .separation) 0 (faceOfA 0 .vertex)
+    pub first-b : bestOfB 1 ≡ newBest (faceOfB 0 .normal) (faceOfB 0 .separation) (faceOfB 0 .vertex) 0
     -- so a face of each side is found
-    pub found-a : (early : Bool) → sideOfA early s n t m x .found ≡ true
-    pub found-b : (early : Bool) → sideOfB early s n t m x .found ≡ true
+    pub found-a : sideOfA s n t m x .found ≡ true
+    pub found-b : sideOfB s n t m x .found ≡ true

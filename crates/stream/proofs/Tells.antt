@@ -11,11 +11,11 @@ use lib.Seq.{set-at, drop-cons, take-at, drop-at, drop-drop, take-add, take-all,
 use Rattle.frame_hex.specs.Hex.{hexOf}
 use Rattle.frame.specs.Answers.{Answers}
 use Rattle.frame.specs.Frames.{faultOf}
-use Rattle.frame.specs.Lines.{lineAnswer}
+use Rattle.frame.specs.Lines.{lineAnswer, longestLineAnswer}
 use Rattle.frame.proofs.Lengths.{line-length, line-long}
 use Rattle.stream_pending.specs.declared.Pending.{Pending}
 use Rattle.stream.specs.declared.Part.{Part}
-use Rattle.stream_pending.specs.Ends.{lineEnd, toEnd}
+use Rattle.stream_pending.specs.Ends.{lineEnd, toEnd, longestTold}
 use Rattle.stream.specs.Told.{lineTold, told, heldAfter, toldLast}
 use Rattle.stream_pending.specs.Held.{Ready, nothing, Grows}
 use Rattle.stream.specs.Tells.{Puts, Tells}
@@ -51,7 +51,7 @@ answers-more {vs} {o} {m} {n} c a h =
           ∙ (sym (append-snoc vs c (drop (suc n) o)) ∙ ap (λ j. vs ++ (c ∷ []) ++ drop j o) (sym (add-one n) ∙ sym l)));
     }
 
-pub answer-most : (xs : List ℕ) {o o′ : List ℕ} {r : ℕ} → Answers (lineAnswer xs) o r o′ → r ≤ 206
+pub answer-most : (xs : List ℕ) {o o′ : List ℕ} {r : ℕ} → Answers (lineAnswer xs) o r o′ → r ≤ longestLineAnswer
 answer-most xs a = omega (arith, a .count, line-length xs)
 
 pub puts-long : {line o o′ : List ℕ} {p : Pending} {r : ℕ} → p .over ≡ true → Answers (hexOf (faultOf 0x24)) o r o′ → Puts lineAnswer line p o r o′
@@ -163,6 +163,6 @@ tells-next {chunk} {line} {l1} {l2} {o} {o1} {o2} {p} {q} {i} {n} {t} h a b =
     rw e (tells-then a f)
 
 -- a part that ends with room left has an end, and is no empty part
-pub moves : (i n l room : ℕ) → n ≤ 207 * i → 207 ≤ room → 0 < l → (i < l → room < n + 207) → 0 < i
+pub moves : (i n l room : ℕ) → n ≤ longestTold * i → longestTold ≤ room → 0 < l → (i < l → room < n + longestTold) → 0 < i
 moves zero n l room a b c d = let e = d c in absurd (omega arith)
 moves (suc i) n l room a b c d = omega arith

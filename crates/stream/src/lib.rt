@@ -9,8 +9,9 @@ ghost use Prim.Native.Nat.{_+_, _≤_, _<_};
 ghost use lib.ListN.{length, set};
 ghost use Rattle.frame.specs.Answers.{Answers};
 ghost use Rattle.frame.specs.Frames.{faultOf};
-ghost use Rattle.frame.specs.Lines.{lineAnswer};
+ghost use Rattle.frame.specs.Lines.{lineAnswer, longestLineAnswer};
 ghost use Rattle.frame_hex.specs.Hex.{hexOf};
+ghost use Rattle.stream_pending.specs.Ends.{longestTold};
 ghost use Rattle.stream_pending.specs.Held.{Ready};
 ghost use Rattle.stream.specs.Tells.{Puts, Tells};
 ghost use Rattle.stream.specs.Told.{lineTold, toldLast};
@@ -32,7 +33,7 @@ pub struct Part {
 
 // ff24
 fn put_long(out: &mut [u8]) -> usize
-    requires { ⌜ 206 ≤ length (now out) ⌝ }
+    requires { ⌜ longestLineAnswer ≤ length (now out) ⌝ }
     ensures { λ r. ⌜ Answers (hexOf (faultOf 0x24)) (now (out .entry)) r (now (out .exit)) ⌝ }
 {
     put_byte(out, 0, b'f');
@@ -44,8 +45,8 @@ fn put_long(out: &mut [u8]) -> usize
 
 // The answer to the characters that are held.
 fn answer_held(line: &[u8], p: Pending, out: &mut [u8]) -> usize
-    requires { ⌜ Ready (now line) p × (206 ≤ length (now out)) ⌝ }
-    ensures { λ r. ⌜ (r ≤ 206) × Puts lineAnswer (now (line .entry)) p (now (out .entry)) r (now (out .exit)) ⌝ }
+    requires { ⌜ Ready (now line) p × (longestLineAnswer ≤ length (now out)) ⌝ }
+    ensures { λ r. ⌜ (r ≤ longestLineAnswer) × Puts lineAnswer (now (line .entry)) p (now (out .entry)) r (now (out .exit)) ⌝ }
 {
     if p.over {
         return put_long(out);
@@ -56,8 +57,9 @@ fn answer_held(line: &[u8], p: Pending, out: &mut [u8]) -> usize
 
 // The answer to the line that is held and ends with these characters.
 fn answer_ended(part: &[u8], line: &mut [u8], p: Pending, out: &mut [u8]) -> usize
-    requires { ⌜ Ready (now line) p × (206 ≤ length (now out)) ⌝ }
-    ensures { λ r. ⌜ (r ≤ 206) × Puts (λ xs. lineAnswer (xs ++ now (part .entry))) (now (line .entry)) p (now (out .entry)) r (now (out .exit)) ⌝ }
+    requires { ⌜ Ready (now line) p × (longestLineAnswer ≤ length (now out)) ⌝ }
+    ensures { λ r. ⌜ (r ≤ longestLineAnswer)
+        × Puts (λ xs. lineAnswer (xs ++ now (part .entry))) (now (line .entry)) p (now (out .entry)) r (now (out .exit)) ⌝ }
 {
     if is_nothing(p) {
         return line_answer(part, out);
@@ -68,8 +70,8 @@ fn answer_ended(part: &[u8], line: &mut [u8], p: Pending, out: &mut [u8]) -> usi
 
 // What is told of the line that is held and ends with these characters.
 fn tell_line(part: &[u8], line: &mut [u8], p: Pending, out: &mut [u8]) -> usize
-    requires { ⌜ Ready (now line) p × (207 ≤ length (now out)) ⌝ }
-    ensures { λ r. ⌜ (r ≤ 207) × Puts (λ xs. lineTold (xs ++ now (part .entry))) (now (line .entry)) p (now (out .entry)) r (now (out .exit)) ⌝ }
+    requires { ⌜ Ready (now line) p × (longestTold ≤ length (now out)) ⌝ }
+    ensures { λ r. ⌜ (r ≤ longestTold) × Puts (λ xs. lineTold (xs ++ now (part .entry))) (now (line .entry)) p (now (out .entry)) r (now (out .exit)) ⌝ }
 {
     let n = answer_ended(part, line, p, out);
     end_line(out, n)
@@ -77,8 +79,8 @@ fn tell_line(part: &[u8], line: &mut [u8], p: Pending, out: &mut [u8]) -> usize
 
 // What is told at the end of the input.
 pub fn tell_last(line: &[u8], p: Pending, out: &mut [u8]) -> usize
-    requires { ⌜ Ready (now line) p × (207 ≤ length (now out)) ⌝ }
-    ensures { λ r. ⌜ (r ≤ 207) × Puts toldLast (now (line .entry)) p (now (out .entry)) r (now (out .exit)) ⌝ }
+    requires { ⌜ Ready (now line) p × (longestTold ≤ length (now out)) ⌝ }
+    ensures { λ r. ⌜ (r ≤ longestTold) × Puts toldLast (now (line .entry)) p (now (out .entry)) r (now (out .exit)) ⌝ }
 {
     if is_nothing(p) {
         return 0;
@@ -89,8 +91,8 @@ pub fn tell_last(line: &[u8], p: Pending, out: &mut [u8]) -> usize
 
 // The next line of what was read, or what there is of it.
 fn tell_next(rest: &[u8], line: &mut [u8], p: Pending, out: &mut [u8]) -> Part
-    requires { ⌜ (0 < length (now rest)) × Ready (now line) p × (207 ≤ length (now out)) ⌝ }
-    ensures { λ r. ⌜ (0 < r .taken) × (r .count ≤ 207) × Tells (now (rest .entry)) (now (line .entry)) p (now (out .entry)) r (now (line .exit))
+    requires { ⌜ (0 < length (now rest)) × Ready (now line) p × (longestTold ≤ length (now out)) ⌝ }
+    ensures { λ r. ⌜ (0 < r .taken) × (r .count ≤ longestTold) × Tells (now (rest .entry)) (now (line .entry)) p (now (out .entry)) r (now (line .exit))
         (now (out .exit)) ⌝ }
 {
     let n = line_end(rest);
@@ -115,9 +117,9 @@ fn tell_next(rest: &[u8], line: &mut [u8], p: Pending, out: &mut [u8]) -> Part
 
 // What was read, to its end or until the next answer may find too little room: the answers stand in `out` from the first place on, in order.
 pub fn tell_part(chunk: &[u8], line: &mut [u8], p: Pending, out: &mut [u8]) -> Part
-    requires { ⌜ (0 < length (now chunk)) × Ready (now line) p × (207 ≤ length (now out)) ⌝ }
+    requires { ⌜ (0 < length (now chunk)) × Ready (now line) p × (longestTold ≤ length (now out)) ⌝ }
     ensures { λ r. ⌜ (0 < r .taken) × (r .count ≤ length (now (out .entry)))
-        × (r .taken < length (now (chunk .entry)) → length (now (out .entry)) < r .count + 207)
+        × (r .taken < length (now (chunk .entry)) → length (now (out .entry)) < r .count + longestTold)
         × Tells (now (chunk .entry)) (now (line .entry)) p (now (out .entry)) r (now (line .exit)) (now (out .exit)) ⌝ }
 {
     let mut i = 0;

@@ -1,4 +1,4 @@
--- Where a line ends. Definitions only.
+-- Where a line ends, and how much room one answer takes with its line end. Definitions only.
 use Prim.Native.Nat.{ℕ, suc}
 use mathlib.Core.Bool.{cond}
 use mathlib.Core.List.{List, [], _∷_}
@@ -12,3 +12,7 @@ lineEnd = 10
 unfoldable pub toEnd : List ℕ → ℕ
 toEnd [] = 0
 toEnd (c ∷ cs) = cond (eqb c lineEnd) 0 (suc (toEnd cs))
+
+-- what is told of one line at the most: the longest answer in characters, and its line end
+abbrev pub longestTold : ℕ
+longestTold = 209

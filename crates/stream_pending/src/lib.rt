@@ -5,7 +5,7 @@ ghost use mathlib.Core.Path.{_≡_};
 ghost use Prim.Native.Nat.{_+_, _≤_, _<_};
 ghost use lib.ListN.{length, set};
 ghost use Rattle.stream_pending.specs.Copied.{Copied};
-ghost use Rattle.stream_pending.specs.Ends.{toEnd};
+ghost use Rattle.stream_pending.specs.Ends.{toEnd, longestTold};
 ghost use Rattle.stream_pending.specs.Held.{Ready, nothing, Grows};
 
 // The most characters that are kept of a line.
@@ -13,8 +13,8 @@ const MOST: usize = 20000;
 
 const LINE_END: u8 = 10;
 
-// The longest answer, and its line end.
-const LONGEST: usize = 207;
+// The longest answer in characters, and its line end.
+const LONGEST: usize = 209;
 
 // What is held of a line whose end has not come: how many characters, and whether there were more than are kept.
 pub struct Pending {
@@ -80,7 +80,7 @@ pub fn hold(part: &[u8], line: &mut [u8], p: Pending) -> Pending
 
 // The line end behind an answer of n characters.
 pub fn end_line(out: &mut [u8], n: usize) -> usize
-    requires { ⌜ (n ≤ 206) × (207 ≤ length (now out)) ⌝ }
+    requires { ⌜ (n < longestTold) × (longestTold ≤ length (now out)) ⌝ }
     ensures { λ r. ⌜ (r ≡ n + 1) × (now (out .exit) ≡ set (now (out .entry)) n 10) ⌝ }
 {
     out[n] = LINE_END;
@@ -90,7 +90,7 @@ pub fn end_line(out: &mut [u8], n: usize) -> usize
 // Whether there is more to tell, and room for the longest answer.
 pub fn goes_on(i: usize, length: usize, n: usize, room: usize) -> bool
     requires { ⌜ n ≤ room ⌝ }
-    ensures { λ r. ⌜ (r ≡ true → (i < length) × (n + 207 ≤ room)) × (r ≡ false → i < length → room < n + 207) ⌝ }
+    ensures { λ r. ⌜ (r ≡ true → (i < length) × (n + longestTold ≤ room)) × (r ≡ false → i < length → room < n + longestTold) ⌝ }
 {
     if i < length {
         return LONGEST <= room - n;

@@ -58,9 +58,10 @@ HOLDS(sizeof(contact_manifold) == 96);
 LIES(contact_manifold, points, 0, 80);
 LIES(contact_manifold, normal, 80, 12);
 LIES(contact_manifold, count, 92, 1);
-HOLDS(sizeof(contact_outcome) == 100);
+HOLDS(sizeof(contact_outcome) == 104);
 LIES(contact_outcome, status, 0, 1);
 LIES(contact_outcome, contact, 4, 96);
+LIES(contact_outcome, retired, 100, 1);
 
 #ifdef __cplusplus
 extern "C" {
@@ -192,6 +193,7 @@ static void put_answer(const contact_outcome *outcome, contact_cache next) {
         put(point->pair.owner2, 1);
         put(point->pair.index2, 1);
     }
+    put(outcome->retired, 1);
 }
 
 /* ---- calls on a painted stack; what is watched lies outside it */
@@ -251,9 +253,9 @@ static int all_are(const uint8_t *bytes, size_t count, uint8_t byte) {
     return 1;
 }
 
-/* Both ways to answer the frame, held to its answer, with `mark` in all that is not to be written. */
 static struct {
     long calls, points[CONTACT_MAX_POINTS + 1], statuses[9], rules[9], others;
+    long retired_marked, retired_refused, retired_small; /* by what came of a retired type; small: a capacity below 4 */
     size_t collide_stack, judge_stack, answer_stack;
 } met;
 static size_t thread_itself;
@@ -262,12 +264,26 @@ static void deeper(size_t *most, size_t depth) {
     if (depth - thread_itself > *most) *most = depth - thread_itself;
 }
 
-static void hold(const uint8_t *wanted, size_t wanted_len, uint8_t mark, long line) {
-    memset(&came, mark, sizeof came);
+/* An accepted call with a capacity of 4 or more is marked where it read a retired kind, and no other. */
+static void hold_mark(const contact_outcome *outcome, long line) {
+    const int retired = cache_given.kind >= 6 && cache_given.kind <= 8;
+    const int small = capacity < CONTACT_MAX_POINTS, refused = outcome->status != CONTACT_ACCEPTED;
+    if (outcome->retired != (retired && !small && !refused)) stop("the mark that a retired kind was read", line);
+    if (!retired) return;
+    if (refused) met.retired_refused++;
+    else if (small) met.retired_small++;
+    else met.retired_marked++;
+}
+
+/* Both ways to answer the frame, held to its answer, with `untouched` in all that is not to be written. */
+static void hold(const uint8_t *wanted, size_t wanted_len, uint8_t untouched, long line) {
+    memset(&came, untouched, sizeof came);
+    if (contact_answer(frame, frame_len, came.answer, sizeof came.answer - 1) != 0) stop("an answer in too few places", line);
+    if (!all_are(came.answer, sizeof came.answer, untouched)) stop("a byte written to too few places", line);
     deeper(&met.answer_stack, touched(answer_frame));
     if (answered != wanted_len || memcmp(came.answer, wanted, wanted_len)) stop("contact_answer differs", line);
-    if (!all_are(came.answer + answered, sizeof came.answer - answered, mark)) stop("a byte behind the answer", line);
-    if (!all_are(came.behind_answer, WATCHED, mark)) stop("a byte behind the list", line);
+    if (!all_are(came.answer + answered, sizeof came.answer - answered, untouched)) stop("a byte behind the answer", line);
+    if (!all_are(came.behind_answer, WATCHED, untouched)) stop("a byte behind the list", line);
     if (frame_len == 0 || frame[0] != 0x12 || wanted[0] != 0x92) {
         met.others++;
         return;
@@ -280,8 +296,9 @@ static void hold(const uint8_t *wanted, size_t wanted_len, uint8_t mark, long li
     memcpy(&outcome, came.outcome, sizeof outcome);
     put_answer(&outcome, came.cache);
     if (answer_len != wanted_len || memcmp(answer, wanted, wanted_len)) stop("contact_collide differs", line);
-    if (!all_are(came.outcome + sizeof outcome, WATCHED, mark)) stop("a byte behind the outcome", line);
-    if (!all_are(came.behind_cache, WATCHED, mark)) stop("a byte behind the cache", line);
+    if (!all_are(came.outcome + sizeof outcome, WATCHED, untouched)) stop("a byte behind the outcome", line);
+    if (!all_are(came.behind_cache, WATCHED, untouched)) stop("a byte behind the cache", line);
+    hold_mark(&outcome, line);
     if (capacity >= CONTACT_MAX_POINTS) {
         if ((outcome.status == CONTACT_HULL_A) != (rule_a != 0)) stop("refusal 1 and the rule of A", line);
         if ((outcome.status == CONTACT_HULL_B) != (rule_a == 0 && rule_b != 0)) stop("refusal 2 and the rule of B", line);
@@ -352,7 +369,8 @@ int main(int count, char **words) {
     for (i = 0; i <= 6; i++) printf(" %ld", met.statuses[i] / 2);
     printf("; rules 0 to 8:");
     for (i = 0; i <= 8; i++) printf(" %ld", met.rules[i] / 2);
-    printf("\n");
+    printf("; retired kinds marked %ld, refused %ld, with a capacity below 4 %ld\n", met.retired_marked / 2, met.retired_refused / 2,
+        met.retired_small / 2);
     most_stack("contact_collide", met.collide_stack, CONTACT_COLLIDE_STACK);
     most_stack("contact_first_broken_rule", met.judge_stack, CONTACT_COLLIDE_STACK);
     most_stack("contact_answer", met.answer_stack, CONTACT_ANSWER_STACK);
@@ -365,5 +383,6 @@ int main(int count, char **words) {
     for (i = 0; i <= 8; i++) {
         if (!met.rules[i]) stop("a rule was never met", number);
     }
+    if (!met.retired_marked || !met.retired_refused || !met.retired_small) stop("a way of a retired kind was never met", number);
     return 0;
 }

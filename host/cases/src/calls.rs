@@ -122,20 +122,27 @@ fn in_range(a: HullSize, b: HullSize, cache: SatCache) -> bool {
     }
 }
 
-/// No contact, and the cache as it was.
+/// No contact, no mark, and the cache as it was.
 pub fn empty(status: u8, cache: SatCache) -> Answer {
-    let contact = Contact::EMPTY;
     Answer {
-        outcome: Outcome { status, contact },
+        outcome: Outcome {
+            status,
+            contact: Contact::EMPTY,
+            retired: 0,
+        },
         cache,
     }
 }
 
 /// Equal in every place, any NaN of a point or a normal being equal to any other.
 pub fn same_answers(a: &Answer, b: &Answer) -> bool {
-    let Outcome { status, contact } = a.outcome;
+    let Outcome {
+        status,
+        contact,
+        retired,
+    } = a.outcome;
     let (points, others) = (contact.points, b.outcome.contact.points);
-    status == b.outcome.status
+    (status, retired) == (b.outcome.status, b.outcome.retired)
         && a.cache == b.cache
         && contact.count == b.outcome.contact.count
         && same_vectors(contact.normal, b.outcome.contact.normal)

@@ -1,5 +1,6 @@
 //! Numbers from a seed; vectors, transforms and hulls of every sort, pairs of them, calls and the answers that document 01
-//! wants; the comparison of two floats, and the count of what was compared and met. Nothing here calls the proved code.
+//! wants; the comparison of two floats, and the count of what was compared and met. Nothing here calls the proved code. Where
+//! document 01 is named, it is meant as document 02's requests have changed it.
 
 pub mod calls;
 pub mod convert;

@@ -1,14 +1,24 @@
-//! The refusals that stand for the text's panics are those that the panics' own words tell.
+//! The refusals that stand for the text's panics are those that the panics' own words tell; and a retired type acts as type
+//! 0, but for the mark.
 #![cfg(rust_text)]
 
-use cases::calls::Work;
-use cases::pairs::{self, placed};
+use cases::calls::{caches, empty, same_answers, Answer, Call, Work};
+use cases::pairs::{self, placed, Pair};
 use cases::sorts::padded;
 use cases::{convert, Numbers};
 use oracle::open::{collide_hulls, LocalManifold};
 use oracle::quiet;
 use records::SatCache;
 use std::panic::catch_unwind;
+
+/// Any two, or two whose padding lies anywhere.
+fn pair(turn: usize, n: &mut Numbers) -> Pair {
+    if turn.is_multiple_of(2) {
+        return pairs::any(n);
+    }
+    let (a, b) = (padded(n), padded(n));
+    placed(a, b, n)
+}
 
 /// 7 for an index of -1, 6 for a 65th place of a buffer, 5 for any other; 0 where the text does not panic.
 fn told(work: &Work, cache: SatCache) -> u8 {
@@ -38,16 +48,10 @@ fn panics_tell_the_refusals() {
     let n = &mut numbers;
     let mut met = [0; 8];
     for i in 0..4000 {
-        let pair = match i % 2 {
-            0 => pairs::any(n),
-            _ => {
-                let (a, b) = (padded(n), padded(n));
-                placed(a, b, n)
-            }
-        };
+        let pair = pair(i, n);
         let (index_a, index_b) = (n.below(pair.a.size.faces), n.below(pair.b.size.faces));
         let work = Work::of_pair(&pair);
-        for kind in [0, 2, 3, 6, 7, 8] {
+        for kind in [0, 2, 3] {
             let cache = SatCache {
                 kind,
                 index_a: index_a as u8,
@@ -60,4 +64,56 @@ fn panics_tell_the_refusals() {
         }
     }
     assert!(met[5] > 100 && met[6] > 30, "{met:?}");
+}
+
+/// Accepted: the answer of type 0 with the mark. Refused: the cache as it was, with its retired type, and no mark; and so
+/// with a capacity below 4, where nothing is looked at.
+#[test]
+fn retired_types_act_as_type_0() {
+    let mut numbers = Numbers::new(2);
+    let n = &mut numbers;
+    let mut met = [0; 7];
+    for i in 0..4000 {
+        let pair = pair(i, n);
+        let cache = caches::any(n);
+        let call = |capacity, kind| Call {
+            capacity,
+            a: pair.a.lent(),
+            b: pair.b.lent(),
+            transform: convert::our_transform(pair.transform),
+            cache: SatCache { kind, ..cache },
+        };
+        let Answer {
+            mut outcome,
+            cache: next,
+        } = call(4, 0).wanted();
+        assert_eq!(outcome.retired, 0);
+        outcome.retired = 1;
+        met[usize::from(outcome.status)] += 1;
+        for kind in SatCache::RETIRED_TYPES {
+            let (retired, small) = (call(4, kind), call(3, kind));
+            let wanted = match outcome.status {
+                0 => Answer {
+                    outcome,
+                    cache: next,
+                },
+                refusal => empty(refusal, retired.cache),
+            };
+            assert!(same_answers(&retired.wanted(), &wanted), "{retired:?}");
+            assert!(
+                same_answers(&small.wanted(), &empty(0, small.cache)),
+                "{small:?}"
+            );
+        }
+    }
+    assert!(met[0] > 3000 && met[5] > 30 && met[6] > 5, "{met:?}");
+}
+
+/// Two answers that differ in the mark alone are not the same.
+#[test]
+fn the_mark_is_compared() {
+    let (answer, mut marked) = (empty(0, SatCache::EMPTY), empty(0, SatCache::EMPTY));
+    assert!(same_answers(&answer, &marked));
+    marked.outcome.retired = 1;
+    assert!(!same_answers(&answer, &marked));
 }

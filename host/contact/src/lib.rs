@@ -3,7 +3,8 @@
 //!
 //! A hull is lent, not copied, and judged by every call: one that breaks a rule is refused by its number, and so is a
 //! transform or a cache that does not fit. No input makes a call fault. A cache starts as [`SatCache::EMPTY`] and stays
-//! with its pair of hulls from step to step. [`HullBuilder`] makes a hull from its vertices and faces.
+//! with its pair of hulls from step to step; of one that was saved with a retired type the outcome says so
+//! ([`Outcome::retired_type_read`]). [`HullBuilder`] makes a hull from its vertices and faces.
 //!
 //! # What a host must know
 //!
@@ -62,6 +63,15 @@
 //! let outcome = collide(&hull, &hull, at(f32::NAN), &mut cache);
 //! assert_eq!(outcome.accepted(), Err(Refusal::Transform));
 //! assert_eq!(cache.hit, 1);
+//!
+//! // A saved run may hold a cache of a retired type: it serves as an empty one, and the outcome says that it was read.
+//! let mut saved = SatCache { kind: 7, ..cache };
+//! assert_eq!(saved.kind().to_string(), "no axis (type 7 is retired)");
+//! let outcome = collide(&hull, &hull, at(0.99), &mut saved);
+//! assert!(outcome.retired_type_read());
+//! assert_eq!(saved.kind(), CacheKind::FaceA { face: 3 });
+//! let outcome = collide(&hull, &hull, at(0.99), &mut saved);
+//! assert!(!outcome.retired_type_read());
 //! # Ok::<(), contact::HullError>(())
 //! ```
 
@@ -162,12 +172,25 @@ impl fmt::Display for Refused {
 impl std::error::Error for Refused {}
 
 /// The contact of hull A and hull B, B placed in A's frame. The cache becomes the next one, where the call is accepted.
+/// Whether it had a retired type is told by [`Outcome::retired_type_read`].
+///
+/// ```
+/// # use contact::*;
+/// # let log = HullBuilder::log(12, 0.15, 0.12, 4.0).build()?;
+/// # let (a, b) = (log.lend(), log.lend());
+/// # let b_in_a = Transform { p: Vec3 { x: 0.0, y: 0.0, z: 0.2 }, q: Quat::IDENTITY };
+/// let mut cache = SatCache { kind: 6, ..SatCache::EMPTY }; // as a saved run may hold it
+/// let outcome = collide(&a, &b, b_in_a, &mut cache);
+/// assert!(outcome.retired_type_read() && !cache.has_retired_type());
+/// # Ok::<(), BuildError>(())
+/// ```
 #[inline]
 pub fn collide(a: &Hull, b: &Hull, transform: Transform, cache: &mut SatCache) -> Outcome {
     collide_with(MAX_MANIFOLD_POINTS as i32, a, b, transform, cache)
 }
 
-/// The same with room for so many points: with less than four there are none, and nothing else is looked at.
+/// The same with room for so many points: with less than four there are none, and nothing else is looked at, not even the
+/// cache's type.
 #[inline]
 pub fn collide_with(
     capacity: i32,
@@ -198,7 +221,7 @@ pub fn collide_with(
 }
 
 /// The most bytes of an answer to a frame.
-pub const LONGEST_ANSWER: usize = 103;
+pub const LONGEST_ANSWER: usize = 104;
 
 /// The bytes of an answer.
 #[derive(Debug, Clone, Copy)]

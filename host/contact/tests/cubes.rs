@@ -1,4 +1,5 @@
-//! Document 01's runs through the wrapper: two cubes of half-size 1, and what the wrapper says of refusals and lengths.
+//! Document 01's runs through the wrapper: two cubes of half-size 1, and what the wrapper says of refusals, retired types and
+//! lengths.
 
 use contact::*;
 
@@ -136,6 +137,41 @@ fn refusals() {
     }
 }
 
+/// A retired type acts as type 0, and the outcome tells that it was read; where the cache stays as it was, it does not.
+#[test]
+fn retired_types() {
+    let cube = Cube::new();
+    let hull = cube.hull();
+    for kind in 0..=255 {
+        let retired = (6..=8).contains(&kind);
+        let given = SatCache {
+            separation: 0x7fc1_2345,
+            kind,
+            index_a: 255,
+            index_b: 255,
+            hit: 7,
+        };
+        assert_eq!(given.has_retired_type(), retired, "{kind}");
+        let mut cache = given;
+        let small = collide_with(3, &hull, &hull, at(2.0), &mut cache);
+        assert_eq!(small.accepted(), Ok(Contact::EMPTY));
+        assert!(!small.retired_type_read() && cache == given, "{kind}");
+        let refused = collide(&hull, &hull, at(f32::NAN), &mut cache);
+        assert_eq!(refused.accepted(), Err(Refusal::Transform));
+        assert!(!refused.retired_type_read() && cache == given, "{kind}");
+        if (2..=4).contains(&kind) {
+            continue; // they name what a cube does not have
+        }
+        let mut empty = SatCache::EMPTY;
+        let searched = collide(&hull, &hull, at(2.0), &mut empty);
+        let outcome = collide(&hull, &hull, at(2.0), &mut cache);
+        assert_eq!(outcome.accepted(), searched.accepted());
+        assert_eq!((cache, cache.kind), (empty, 3), "{kind}");
+        assert_eq!(outcome.retired, u8::from(retired), "{kind}");
+        assert_eq!(outcome.retired_type_read(), retired, "{kind}");
+    }
+}
+
 #[test]
 fn lists_that_do_not_fit() {
     let Cube { numbers, links } = Cube::new();
@@ -160,9 +196,12 @@ fn frames() {
     assert_eq!(*answer(&[0x11, 2, 3, 1, 9]), [0xff, 0x08]);
     assert_eq!(*answer(&[0x10, 0x40]), [0xff, 0x23]);
     assert_eq!(*answer(&[]), [0xff, 0x22]);
-    let mut small = [7; LONGEST_ANSWER - 1];
+    let mut small = [7; 103]; // one place too few
     assert_eq!(answer_into(&[0x10, 0x40, 0x80, 0, 0], &mut small), 0);
-    assert_eq!(small, [7; LONGEST_ANSWER - 1]);
+    assert_eq!(small, [7; 103]);
+    let mut fitting = [7; LONGEST_ANSWER];
+    assert_eq!(answer_into(&[0x10, 0x40, 0x80, 0, 0], &mut fitting), 5);
+    assert_eq!(fitting[..6], [0x90, 0x40, 0, 0, 0, 7]);
 }
 
 /// One change of a cube for each rule that one change can break; what is said names the rule and what to do.

@@ -1,4 +1,4 @@
-//! Frames and answers as bytes, written from document 01 alone. Numbers have the high byte first.
+//! Frames and answers as bytes, written from documents 01 and 02 alone. Numbers have the high byte first.
 
 use cases::calls::{Answer, Call, Given};
 use cases::shapes::Shape;
@@ -15,15 +15,17 @@ pub const CACHE: usize = 5;
 pub const TRANSFORM: usize = 13;
 pub const HULL_A: usize = 41;
 
-/// Where a call's answer has its status, its cache, how many points there are, its normal, and its first point; and how
-/// many bytes a point and the whole have.
+/// Where a call's answer has its status, its cache, how many points there are, its normal, its first point, and the mark
+/// that a retired type was read; and how many bytes a point and the whole have. Document 01's answer ends before the mark,
+/// "a last byte in frame 92" (document 02, j).
 pub const STATUS: usize = 1;
 pub const NEXT_CACHE: usize = 2;
 pub const COUNT: usize = 10;
 pub const NORMAL: usize = 11;
 pub const POINTS: usize = 23;
 pub const A_POINT: usize = 20;
-pub const LONGEST_ANSWER: usize = 103;
+pub const RETIRED: usize = 103;
+pub const LONGEST_ANSWER: usize = 104;
 
 /// Where a cache has its type and its hit.
 pub const TYPE: usize = 4;
@@ -239,7 +241,8 @@ pub fn flip_answer(pair: FeaturePair) -> Vec<u8> {
     answer
 }
 
-/// "92, status (a byte: 0 or the refusal), cache, count (a byte), normal, four points of position, separation, pair".
+/// "92, status (a byte: 0 or the refusal), cache, count (a byte), normal, four points of position, separation, pair"; and
+/// the mark of document 02's request j, "a last byte in frame 92".
 pub fn call_answer(answer: &Answer) -> Vec<u8> {
     let contact = answer.outcome.contact;
     let mut bytes = vec![CALL + 0x80, answer.outcome.status];
@@ -256,6 +259,7 @@ pub fn call_answer(answer: &Answer) -> Vec<u8> {
         bytes.extend(worked_out(separation));
         put_pair(&mut bytes, pair);
     }
+    bytes.push(answer.outcome.retired);
     bytes
 }
 

@@ -2,10 +2,11 @@
 //! it is seen to tell each.
 
 use crate::codec::{
-    self, Fault, A_POINT, CACHE, CALL, CAPACITY, COUNT, HIT, LONGEST_ANSWER, NEXT_CACHE, NORMAL,
-    POINTS, ROOT, STATUS, TRANSFORM,
+    self, Asked, Fault, A_POINT, CACHE, CALL, CAPACITY, COUNT, HIT, NEXT_CACHE, NORMAL, POINTS,
+    RETIRED, ROOT, STATUS, TRANSFORM, TYPE,
 };
 use crate::{hex, wanted, LONGEST_LINE};
+use records::SatCache;
 
 /// What is answered to a line with its end, where it has one; none where nothing is printed.
 type Answers = fn(&[u8]) -> Option<Vec<u8>>;
@@ -26,6 +27,22 @@ fn of_call(line: &[u8], change: impl FnOnce(&mut [u8])) -> Option<Vec<u8>> {
         change(&mut answer);
     }
     Some(answer)
+}
+
+/// The right answer to a call that was accepted and did some work, changed by the type that it was given.
+fn of_work(line: &[u8], change: impl FnOnce(&mut [u8], u8)) -> Option<Vec<u8>> {
+    let asked = hex::read(without_end(line)).map(|frame| codec::decode(&frame));
+    of_call(line, |answer| match asked {
+        Some(Ok(Asked::Call(given))) if answer[STATUS] == 0 && given.capacity >= 4 => {
+            change(answer, given.cache.kind)
+        }
+        _ => {}
+    })
+}
+
+/// Whether the next cache has a retired type, which it has only where it is the cache that was given.
+fn keeps_retired_type(answer: &[u8]) -> bool {
+    SatCache::RETIRED_TYPES.contains(&answer[NEXT_CACHE + TYPE])
 }
 
 /// The right answer to another line.
@@ -53,7 +70,7 @@ fn point(number: usize) -> std::ops::Range<usize> {
     from..from + A_POINT
 }
 
-pub const FAULTS: [(&str, Answers); 28] = [
+pub const FAULTS: [(&str, Answers); 35] = [
     ("low byte first in a root", |line| {
         let mut answer = right(line)?;
         if answer[0] == ROOT + 0x80 {
@@ -116,7 +133,7 @@ pub const FAULTS: [(&str, Answers); 28] = [
     ("a place above the count not cleared", |line| {
         of_call(line, |answer| {
             if answer[COUNT] < 4 {
-                answer[LONGEST_ANSWER - 1] = 1;
+                answer[point(3).end - 1] = 1;
             }
         })
     }),
@@ -146,6 +163,37 @@ pub const FAULTS: [(&str, Answers); 28] = [
             let bits = u32::from_be_bytes(answer[NEXT_CACHE..][..4].try_into().expect("four"));
             if f32::from_bits(bits).is_nan() {
                 answer[NEXT_CACHE..][..4].copy_from_slice(&[0x7f, 0xc0, 0, 0]);
+            }
+        })
+    }),
+    ("the mark never set", |line| {
+        of_call(line, |answer| answer[RETIRED] = 0)
+    }),
+    ("the mark on a refusal", |line| {
+        of_call(line, |answer| {
+            let refused = answer[STATUS] != 0;
+            answer[RETIRED] |= u8::from(refused && keeps_retired_type(answer));
+        })
+    }),
+    ("the mark with a capacity below 4", |line| {
+        of_call(line, |answer| {
+            let accepted = answer[STATUS] == 0;
+            answer[RETIRED] |= u8::from(accepted && keeps_retired_type(answer));
+        })
+    }),
+    ("type 5 marked", |line| {
+        of_work(line, |answer, kind| answer[RETIRED] |= u8::from(kind == 5))
+    }),
+    ("type 9 marked", |line| {
+        of_work(line, |answer, kind| answer[RETIRED] |= u8::from(kind == 9))
+    }),
+    ("type 8 not marked", |line| {
+        of_work(line, |answer, kind| answer[RETIRED] &= u8::from(kind != 8))
+    }),
+    ("a retired type kept in the next cache", |line| {
+        of_work(line, |answer, kind| {
+            if answer[RETIRED] == 1 {
+                answer[NEXT_CACHE + TYPE] = kind;
             }
         })
     }),

@@ -1,7 +1,9 @@
 //! Any bytes through the library: frames of every sort that are changed a little or much, and bytes at random, into places
 //! of every size. Round `r` of a seed depends on these two numbers alone.
 
-use crate::codec::{CACHE, CALL, CAPACITY, FLIP, HULL_A, LONGEST_ANSWER, ROOT, STATUS, TRANSFORM};
+use crate::codec::{
+    CACHE, CALL, CAPACITY, FLIP, HULL_A, LONGEST_ANSWER, RETIRED, ROOT, STATUS, TRANSFORM,
+};
 use crate::library::{Library, Room};
 use crate::sorts::Frames;
 use crate::{hex, wanted, Frame};
@@ -31,6 +33,8 @@ pub struct Fuzzed {
     roots_and_pairs: u64,
     faults: u64,
     accepted: u64,
+    /// Of the accepted ones.
+    marked: u64,
     refused: u64,
     /// Into places that are too small.
     small: u64,
@@ -84,7 +88,7 @@ impl Fuzz {
         let size = match n.below(16) {
             0 => n.below(LONGEST_ANSWER),
             1 => LONGEST_ANSWER - 1,
-            2 | 3 => LONGEST_ANSWER + n.below(98),
+            2 | 3 => LONGEST_ANSWER + n.below(97),
             _ => LONGEST_ANSWER,
         };
         let wanted = if size < LONGEST_ANSWER {
@@ -206,7 +210,10 @@ impl Fuzzed {
             Some([]) => &mut self.small,
             Some([0xff, ..]) => &mut self.faults,
             Some(answer) if answer[0] != CALL + 0x80 => &mut self.roots_and_pairs,
-            Some(answer) if answer[STATUS] == 0 => &mut self.accepted,
+            Some(answer) if answer[STATUS] == 0 => {
+                self.marked += u64::from(answer[RETIRED]);
+                &mut self.accepted
+            }
             Some(_) => &mut self.refused,
         };
         *count += 1;
@@ -221,14 +228,16 @@ impl std::fmt::Display for Fuzzed {
             roots_and_pairs,
             faults,
             accepted,
+            marked,
             refused,
             small,
             untold,
         } = self;
         write!(
             f,
-            "{rounds} rounds, {different} different; roots and pairs {roots_and_pairs}, calls accepted {accepted}, refused \
-             {refused}, faults {faults}, too little room {small}, without an answer to hold it to {untold}"
+            "{rounds} rounds, {different} different; roots and pairs {roots_and_pairs}, calls accepted {accepted}, {marked} of \
+             them of a retired type, refused {refused}, faults {faults}, too little room {small}, without an answer to hold it \
+             to {untold}"
         )
     }
 }

@@ -1,6 +1,7 @@
-//! The frames of the program `contact` and of the library that hosts link: a codec written from document 01 alone, the
-//! answer that document 01 wants, frames of every sort from a seed, and the runs that hold a program or a library to the
-//! answers. Nothing here calls the proved code.
+//! The frames of the program `contact` and of the library that hosts link: a codec written from documents 01 and 02 alone,
+//! the answer that document 01 wants, frames of every sort from a seed, and the runs that hold a program or a library to the
+//! answers. Nothing here calls the proved code. Where document 01 is named, it is meant as document 02's requests have
+//! changed it.
 
 pub mod codec;
 pub mod faults;

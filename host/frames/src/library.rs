@@ -8,8 +8,8 @@ use cases::calls::{Answer, Call};
 
 /// The two exported functions that answer a call, or stand-ins for them.
 pub trait Library {
-    /// The answer to a frame in bytes, written to `answer`: how many bytes it has. Where `answer` has fewer than 103,
-    /// that is 0 and nothing is written.
+    /// The answer to a frame in bytes, written to `answer`: how many bytes it has. Where `answer` has fewer than
+    /// [`LONGEST_ANSWER`], that is 0 and nothing is written.
     fn answer(&mut self, frame: &[u8], answer: &mut [u8]) -> usize;
 
     fn collide(&mut self, call: &Call) -> Answer;
@@ -53,13 +53,13 @@ pub struct Room {
 /// How many bytes are watched on either side.
 const WATCHED: usize = 64;
 
-/// A byte that no answer begins with.
-const MARK: u8 = 0x5a;
+/// What every byte is before a call; no answer begins with it.
+const UNTOUCHED: u8 = 0x5a;
 
 impl Room {
     pub fn new(size: usize) -> Room {
         Room {
-            bytes: vec![MARK; size + 2 * WATCHED],
+            bytes: vec![UNTOUCHED; size + 2 * WATCHED],
             size,
         }
     }
@@ -67,7 +67,7 @@ impl Room {
     /// The library's answer; or what is wrong, where it wrote to a byte that is not of the answer or says that it wrote
     /// more than there is room for.
     pub fn ask(&mut self, frame: &[u8], library: &mut impl Library) -> Result<&[u8], &'static str> {
-        self.bytes.fill(MARK);
+        self.bytes.fill(UNTOUCHED);
         let end = WATCHED + self.size;
         let length = library.answer(frame, &mut self.bytes[WATCHED..end]);
         let most = if self.size < LONGEST_ANSWER {
@@ -80,7 +80,7 @@ impl Room {
         }
         let (before, rest) = self.bytes.split_at(WATCHED);
         let (answer, after) = rest.split_at(length);
-        if before.iter().chain(after).any(|&byte| byte != MARK) {
+        if before.iter().chain(after).any(|&byte| byte != UNTOUCHED) {
             return Err("a byte outside the answer was written");
         }
         Ok(answer)

@@ -1,11 +1,12 @@
-//! How often each sort, fault, refusal, rule and cache type was met, and whether all that must be were.
+//! How often each sort, fault, refusal, rule, cache type and mark was met, and whether all that must be were.
 
 use crate::codec::{
-    self, Asked, Fault, CACHE, CALL, COUNT, FLIP, HIT, NEXT_CACHE, ROOT, STATUS, TYPE,
+    self, Asked, Fault, CALL, COUNT, FLIP, HIT, NEXT_CACHE, RETIRED, ROOT, STATUS, TYPE,
 };
 use crate::sorts::Frames;
 use crate::Frame;
 use cases::met;
+use records::SatCache;
 
 /// Types that are told apart: 0 to 8, and all above together.
 const TYPES: usize = 10;
@@ -29,6 +30,55 @@ pub struct Mix {
     hits: [u64; TYPES],
     next_types: [u64; TYPES],
     points: [u64; 5],
+    retired: Retired,
+}
+
+/// Calls with a cache of a retired type, by the type.
+#[derive(Default)]
+struct Retired {
+    marked: [u64; 3],
+    /// Not marked: capacities below 4, and refused ones, these by their status too.
+    without_work: [u64; 3],
+    refused: [u64; 3],
+    statuses: [u64; 7],
+}
+
+impl Retired {
+    fn add(&mut self, place: usize, answer: &[u8]) {
+        let status = usize::from(answer[STATUS]);
+        match (answer[RETIRED], status) {
+            (1, _) => self.marked[place] += 1,
+            (_, 0) => self.without_work[place] += 1,
+            _ => {
+                self.refused[place] += 1;
+                self.statuses[status] += 1;
+            }
+        }
+    }
+
+    fn report(&self, text: u64) -> bool {
+        let each = |what: &str, counts: [u64; 3], least: u64| {
+            let [six, seven, eight] = counts;
+            let first = format!("{what}: type 6");
+            met(&[
+                (&first, six, least),
+                ("7", seven, least),
+                ("8", eight, least),
+            ])
+        };
+        let [_, a, b, transform, _, padding, cut] = self.statuses;
+        println!("retired types");
+        each("marked", self.marked, text)
+            & each("capacity below 4, not marked", self.without_work, 1)
+            & each("refused, not marked", self.refused, 1)
+            & met(&[
+                ("refused by 1", a, 1),
+                ("2", b, 1),
+                ("3", transform, 1),
+                ("5", padding, text),
+                ("6", cut, text),
+            ])
+    }
 }
 
 impl Mix {
@@ -63,13 +113,17 @@ impl Mix {
         };
         let status = answer[STATUS];
         self.statuses[usize::from(status)] += 1;
+        let is_given = |&kind: &u8| kind == given.cache.kind;
+        if let Some(place) = SatCache::RETIRED_TYPES.iter().position(is_given) {
+            self.retired.add(place, answer);
+        }
         match status {
             1 => self.rules[usize::from(given.a.broken_rule())] += 1,
             2 => self.rules[usize::from(given.b.broken_rule())] += 1,
             0 if given.capacity < 4 => self.without_work += 1,
             0 => {
                 let kind = |byte: u8| usize::from(byte).min(TYPES - 1);
-                let asked = kind(frame[CACHE + TYPE]);
+                let asked = kind(given.cache.kind);
                 self.types[asked] += 1;
                 self.hits[asked] += u64::from(answer[NEXT_CACHE + HIT] == 1);
                 self.next_types[kind(answer[NEXT_CACHE + TYPE])] += 1;
@@ -134,7 +188,8 @@ impl Mix {
         println!("hits");
         good &= types(&self.hits, [0, 0, 1, 1, 1, 0, 0, 0, 0, 0]);
         println!("caches that come out");
-        good &= types(&self.next_types, [1, 0, 1, 1, 1, 0, 0, 0, 1, 0]);
+        good &= types(&self.next_types, [1, 0, 1, 1, 1, 0, 0, 0, 0, 0]);
+        good &= self.retired.report(text);
         println!("points");
         good & met(&[
             ("none", none, text),

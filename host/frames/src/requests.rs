@@ -1,33 +1,51 @@
 //! Document 02's worked examples, a list for each request: the call in a frame, and what its answer must hold. The values
 //! were worked out by another writing of documents 01 and 02, not by the one here.
 
+use crate::codec::call_frame;
 use crate::sorts::marked::frame;
-use cases::shapes::solids::block;
+use cases::calls::Call;
+use cases::shapes::solids::{block, polygon, pyramid, Solid};
 use cases::shapes::{Link, Shape};
-use records::SatCache;
+use records::{Quat, SatCache, Transform, Vec3};
+use std::f64::consts::TAU;
 
 pub struct Example {
     pub words: &'static str,
     pub frame: Vec<u8>,
-    /// The answer's status, next cache and count of points.
+    /// The answer's status, next cache, count of points and mark.
     pub status: u8,
     pub cache: SatCache,
     pub count: u8,
+    pub retired: u8,
 }
 
-/// All requests, in the order in which they landed.
+/// By the letter of the request, in the order in which they landed.
+pub fn by_request() -> [(char, Vec<Example>); 2] {
+    [
+        ('k', finite_separations().into()),
+        ('j', retired_types().into()),
+    ]
+}
+
+/// All requests' examples, in the same order.
 pub fn all() -> Vec<Example> {
-    finite_separations().into()
+    let lists = by_request().into_iter();
+    lists.flat_map(|(_, examples)| examples).collect()
 }
 
-/// A cube of half-size 1 whose planes all have this offset, in a box of this half-size; each vertex stores its lowest
-/// half-edge.
-fn cube(offset: f32, half: f32) -> Shape {
-    let mut cube = Shape::new(&block([1.0; 3]));
-    for edge in (0..cube.size.half_edges).rev() {
-        let vertex = cube.get(edge, Link::Origin);
-        cube.links[vertex] = edge as u8;
+/// The solid's hull; each vertex stores its lowest half-edge.
+fn hull(solid: &Solid) -> Shape {
+    let mut hull = Shape::new(solid);
+    for edge in (0..hull.size.half_edges).rev() {
+        let vertex = hull.get(edge, Link::Origin);
+        hull.links[vertex] = edge as u8;
     }
+    hull
+}
+
+/// A cube of half-size 1 whose planes all have this offset, in a box of this half-size.
+fn cube(offset: f32, half: f32) -> Shape {
+    let mut cube = hull(&block([1.0; 3]));
     for face in 0..cube.size.faces {
         let plane = cube.plane(face);
         cube.numbers[plane + 3] = offset;
@@ -38,43 +56,54 @@ fn cube(offset: f32, half: f32) -> Shape {
     cube
 }
 
+/// A cache that names face 1 of A (type 2), or that comes of face 0 of B and vertex 1 of A (type 3).
+fn axis(kind: u8, separation: u32) -> SatCache {
+    SatCache {
+        separation,
+        kind,
+        index_a: 1,
+        ..SatCache::EMPTY
+    }
+}
+
+/// An empty cache but for its type.
+fn of_type(kind: u8) -> SatCache {
+    SatCache {
+        kind,
+        ..SatCache::EMPTY
+    }
+}
+
 /// Request k: a face separation is a finite number, however far the planes and the hulls lie.
 fn finite_separations() -> [Example; 5] {
     const FAR: [f32; 3] = [4096.0; 3];
     let plain = cube(1.0, 1.0);
     let shifted = cube(8192.0, 1.0);
     let boxed = cube(8192.0, 4096.0);
-    let face = |kind, separation: u32| SatCache {
-        separation,
-        kind,
-        index_a: 1,
-        ..SatCache::EMPTY
-    };
-    let only_face_a = SatCache {
-        kind: 6,
-        ..SatCache::EMPTY
-    };
     [
         Example {
             words: "k 1: cubes, x = 3",
             frame: frame(4, &plain, &plain, [3.0, 0.0, 0.0], SatCache::EMPTY),
             status: 0,
-            cache: face(2, 0x3f80_0000),
+            cache: axis(2, 0x3f80_0000),
             count: 0,
+            retired: 0,
         },
         Example {
             words: "k 2: cubes, x = 2, every offset of A 8192",
             frame: frame(4, &shifted, &plain, [2.0, 0.0, 0.0], SatCache::EMPTY),
             status: 0,
-            cache: face(3, 0),
+            cache: axis(3, 0),
             count: 4,
+            retired: 0,
         },
         Example {
             words: "k 3: every offset of A and of B 8192",
             frame: frame(4, &shifted, &shifted, [2.0, 0.0, 0.0], SatCache::EMPTY),
             status: 0,
-            cache: face(3, 0xc5ff_f800),
+            cache: axis(3, 0xc5ff_f800),
             count: 4,
+            retired: 0,
         },
         Example {
             words: "k 4: the same at the far corner, the boxes as large as they may be",
@@ -82,13 +111,161 @@ fn finite_separations() -> [Example; 5] {
             status: 0,
             cache: SatCache::EMPTY,
             count: 0,
+            retired: 0,
         },
         Example {
-            words: "k 5: the same in plain boxes, by a search for a face of A alone",
-            frame: frame(4, &shifted, &shifted, FAR, only_face_a),
+            words: "k 5: the same in plain boxes, with type 6, which is retired since j",
+            frame: frame(4, &shifted, &shifted, FAR, of_type(6)),
             status: 0,
             cache: SatCache::EMPTY,
             count: 0,
+            retired: 1,
         },
     ]
+}
+
+/// Request j: types 6, 7 and 8 act as type 0, and an accepted call with a capacity of 4 or more is marked.
+fn retired_types() -> [Example; 7] {
+    let cubes = |capacity, x, cache| {
+        let cube = cube(1.0, 1.0);
+        frame(capacity, &cube, &cube, [x, 0.0, 0.0], cache)
+    };
+    // Every field filled, to see that a call which does not read the cache keeps it.
+    let filled = |kind| SatCache {
+        separation: 0x3f00_0000,
+        kind,
+        index_a: 1,
+        index_b: 2,
+        hit: 3,
+    };
+    [
+        Example {
+            words: "j 1: cubes, x = 2, type 0: no mark",
+            frame: cubes(4, 2.0, SatCache::EMPTY),
+            status: 0,
+            cache: axis(3, 0),
+            count: 4,
+            retired: 0,
+        },
+        Example {
+            words: "j 2: cubes, x = 2, type 8 with every other field filled: the answer of type 0, and the mark",
+            frame: cubes(
+                4,
+                2.0,
+                SatCache {
+                    separation: 0x7fc1_2345,
+                    kind: 8,
+                    index_a: 255,
+                    index_b: 255,
+                    hit: 7,
+                },
+            ),
+            status: 0,
+            cache: axis(3, 0),
+            count: 4,
+            retired: 1,
+        },
+        Example {
+            words: "j 3: cubes, x = 3, type 6: an axis apart, as of type 0",
+            frame: cubes(4, 3.0, of_type(6)),
+            status: 0,
+            cache: axis(2, 0x3f80_0000),
+            count: 0,
+            retired: 1,
+        },
+        Example {
+            words: "j 4: cubes, x = 2, type 7, capacity 3: nothing is looked at, no mark, the type stays",
+            frame: cubes(3, 2.0, filled(7)),
+            status: 0,
+            cache: filled(7),
+            count: 0,
+            retired: 0,
+        },
+        Example {
+            words: "j 5: cubes, x NaN, type 6: refused by 3, no mark, the type stays",
+            frame: cubes(4, f32::NAN, filled(6)),
+            status: 3,
+            cache: filled(6),
+            count: 0,
+            retired: 0,
+        },
+        Example {
+            words: "j 6: a 64-gon that loses one corner, type 6: refused by 6 late in the work, no mark all the same",
+            frame: corner_lost(filled(6)),
+            status: 6,
+            cache: filled(6),
+            count: 0,
+            retired: 0,
+        },
+        Example {
+            words: "j 7: cubes, x = 2, type 5: acts as type 0 and is not retired, no mark",
+            frame: cubes(
+                4,
+                2.0,
+                SatCache {
+                    index_a: 9,
+                    index_b: 9,
+                    ..of_type(5)
+                },
+            ),
+            status: 0,
+            cache: axis(3, 0),
+            count: 4,
+            retired: 0,
+        },
+    ]
+}
+
+/// A cone of 64 sides on a block's top face, whose edge lies at x = 2 m, B at x = 1.001 m. The cone's corners lie half a step
+/// round, and B is turned half a step back: one corner points along x and is beyond the edge, the two beside it are not, so
+/// that what the two faces share has 65 corners.
+fn corner_lost(cache: SatCache) -> Vec<u8> {
+    let mut solid = pyramid(64, 1.0, 1.0);
+    let half_steps = polygon(128, 1.0).into_iter().skip(1).step_by(2);
+    for (corner, [x, y]) in solid.corners.iter_mut().zip(half_steps) {
+        *corner = [x, y, 0.0];
+    }
+    let (block, mut cone) = (hull(&block([2.0, 2.0, 1.0])), hull(&solid));
+    for face in 0..cone.size.faces {
+        let plane = cone.plane(face);
+        cone.numbers[plane..plane + 3].copy_from_slice(&normal(&solid, face));
+    }
+    let half_turn = TAU / 256.0;
+    call_frame(&Call {
+        capacity: 4,
+        a: block.lent(),
+        b: cone.lent(),
+        transform: Transform {
+            p: Vec3 {
+                x: 1.001,
+                y: 0.0,
+                z: 1.0,
+            },
+            q: Quat {
+                v: Vec3 {
+                    x: -0.0,
+                    y: -0.0,
+                    z: -half_turn.sin() as f32,
+                },
+                s: half_turn.cos() as f32,
+            },
+        },
+        cache,
+    })
+}
+
+/// By Newell's sum over the corners as they are before they are rounded.
+fn normal(solid: &Solid, face: usize) -> [f32; 3] {
+    let corners = solid.faces[face]
+        .iter()
+        .map(|&corner| solid.corners[corner]);
+    let mut sum = [0.0; 3];
+    for (from, to) in corners.clone().zip(corners.cycle().skip(1)) {
+        for (x, part) in sum.iter_mut().enumerate() {
+            let (y, z) = ((x + 1) % 3, (x + 2) % 3);
+            *part += (from[y] - to[y]) * (from[z] + to[z]);
+        }
+    }
+    let length = sum.iter().map(|part| part * part).sum::<f64>().sqrt();
+    sum.map(|part| (part / length) as f32)
 }

@@ -1,7 +1,7 @@
 //! The frames that are stored with the program, so that it can be held to their answers with no Rust at hand: document
 //! 01's own, then of each sort those that meet something new, then document 02's examples.
 
-use crate::codec::{self, Asked, CACHE, CALL, COUNT, HIT, NEXT_CACHE, STATUS, TYPE};
+use crate::codec::{self, Asked, CALL, COUNT, HIT, NEXT_CACHE, STATUS, TYPE};
 use crate::sorts::{marked, Frames};
 use crate::{requests, wanted, Frame, LONGEST_LINE};
 use std::collections::{HashMap, HashSet};
@@ -67,8 +67,9 @@ fn short_enough(line: &[u8], answer: &[u8]) -> bool {
     line.len() <= if call { LONGEST_CALL } else { LONGEST_LINE + 1 }
 }
 
-/// What a frame meets: the kind of its answer and its fault or status; of a refused hull which rule, of any other call
-/// the type of its cache, of an accepted one also the next type, the hit and how many points.
+/// What a frame meets: the kind of its answer and its fault or status; of a refused hull which rule, and whether the type of
+/// the cache is retired; of any other call that type, of an accepted one also the next type, the hit and how many points. Where
+/// a retired type is marked follows from these: only a call that does no work keeps it.
 fn told(frame: &Frame, answer: &[u8]) -> [u8; 6] {
     let kind = answer[0];
     if kind != CALL + 0x80 {
@@ -80,11 +81,12 @@ fn told(frame: &Frame, answer: &[u8]) -> [u8; 6] {
         panic!("an answer to a call that is none");
     };
     let status = answer[STATUS];
-    let given_type = bytes[CACHE + TYPE].min(9);
+    let given_type = given.cache.kind.min(9);
+    let retired = u8::from(given.cache.has_retired_type());
     let next = &answer[NEXT_CACHE..COUNT];
     match status {
-        1 => [kind, 1, given.a.broken_rule(), 0, 0, 0],
-        2 => [kind, 2, given.b.broken_rule(), 0, 0, 0],
+        1 => [kind, 1, given.a.broken_rule(), retired, 0, 0],
+        2 => [kind, 2, given.b.broken_rule(), retired, 0, 0],
         0 => {
             let (next_type, hit) = (next[TYPE].min(9), next[HIT].min(2));
             [kind, 0, given_type, next_type, hit, answer[COUNT]]

@@ -1,4 +1,4 @@
-//! The codec and the faults are as document 01 says.
+//! The codec and the faults are as documents 01 and 02 say.
 
 use cases::calls::{empty, Call};
 use cases::shapes::solids::{block, pyramid};
@@ -6,7 +6,7 @@ use cases::shapes::Shape;
 use frames::codec::{call_answer, call_frame, decode, Asked, HULL_A, LONGEST_ANSWER};
 use frames::sorts::marked::WHOLE_CASE;
 use frames::{hex, wanted, LONGEST_LINE};
-use records::{FeaturePair, Outcome, Point, Quat, SatCache, Transform, Vec3};
+use records::{FeaturePair, Point, Quat, SatCache, Transform, Vec3};
 
 fn answer(line: &str) -> String {
     let answer = wanted::to_line(line.as_bytes()).expect("no work is asked for");
@@ -138,7 +138,7 @@ fn a_call_is_laid_out_as_written() {
     assert!(decode(&longer).is_err());
 }
 
-/// A NaN that is handed out has fixed bits.
+/// A NaN that is handed out has fixed bits; the mark stands last.
 #[test]
 fn an_answer_is_laid_out_as_written() {
     let cache = SatCache {
@@ -149,7 +149,8 @@ fn an_answer_is_laid_out_as_written() {
         hit: 1,
     };
     let mut answer = empty(0, cache);
-    let Outcome { contact, .. } = &mut answer.outcome;
+    answer.outcome.retired = 1;
+    let contact = &mut answer.outcome.contact;
     contact.count = 1;
     contact.normal = Vec3 {
         x: 1.0,
@@ -175,5 +176,5 @@ fn an_answer_is_laid_out_as_written() {
     let head =
         "9200ffffffff04020601013f8000007fc0000080000000400000004040000040800000bf800000000a010b";
     let zeros = "0".repeat(120);
-    assert_eq!(hex::written(&bytes), format!("{head}{zeros}").as_bytes());
+    assert_eq!(hex::written(&bytes), format!("{head}{zeros}01").as_bytes());
 }

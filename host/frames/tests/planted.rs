@@ -59,6 +59,8 @@ struct StandIn {
     shortens: bool,
     /// Leaves the hit of a call by records as it was.
     keeps_hit: bool,
+    /// Sets no mark in a call by records.
+    unmarked: bool,
 }
 
 const RIGHT: StandIn = StandIn {
@@ -67,6 +69,7 @@ const RIGHT: StandIn = StandIn {
     overruns: false,
     shortens: false,
     keeps_hit: false,
+    unmarked: false,
 };
 
 impl Library for StandIn {
@@ -91,6 +94,9 @@ impl Library for StandIn {
         let mut answer = call.wanted();
         if self.keeps_hit {
             answer.cache.hit = call.cache.hit;
+        }
+        if self.unmarked {
+            answer.outcome.retired = 0;
         }
         answer
     }
@@ -118,6 +124,13 @@ fn faults_of_a_library_are_told() {
         "a NaN with other bits",
         "a point doubled",
         "a place above the count not cleared",
+        "the mark never set",
+        "the mark on a refusal",
+        "the mark with a capacity below 4",
+        "type 5 marked",
+        "type 9 marked",
+        "type 8 not marked",
+        "a retired type kept in the next cache",
         "the scalar of a quaternion first",
         "any owner flipped",
     ] {
@@ -140,6 +153,7 @@ fn bytes_outside_the_answer_are_told() {
 
 #[test]
 fn a_call_by_records_is_told() {
-    let keeps_hit = true;
+    let (keeps_hit, unmarked) = (true, true);
     assert!(held(StandIn { keeps_hit, ..RIGHT }) > 0);
+    assert!(held(StandIn { unmarked, ..RIGHT }) > 0);
 }

@@ -1,18 +1,64 @@
-//! The answers that document 01 wants have what document 02's examples say.
+//! The answers that document 01 wants have what document 02's examples say; and frames and answers are those of the folder
+//! of the examples, where that is at hand.
 #![cfg(rust_text)]
 
-use frames::codec::{COUNT, NEXT_CACHE, STATUS};
-use frames::{requests, wanted};
+use frames::codec::{COUNT, LONGEST_ANSWER, NEXT_CACHE, RETIRED, STATUS};
+use frames::requests::{self, Example};
+use frames::{hex, wanted};
+use std::fs;
+use std::path::{Path, PathBuf};
+
+fn answer(example: &Example) -> Vec<u8> {
+    wanted::to_frame(&example.frame).expect("the Rust text is at hand")
+}
 
 #[test]
 fn examples() {
     for example in requests::all() {
-        let answer = wanted::to_frame(&example.frame).expect("the Rust text is at hand");
+        let answer = answer(&example);
         let cache = example.cache;
         let mut next = cache.separation.to_be_bytes().to_vec();
         next.extend([cache.kind, cache.index_a, cache.index_b, cache.hit]);
         assert_eq!(answer[STATUS], example.status, "{}", example.words);
         assert_eq!(answer[NEXT_CACHE..COUNT], next, "{}", example.words);
         assert_eq!(answer[COUNT], example.count, "{}", example.words);
+        assert_eq!(answer[RETIRED], example.retired, "{}", example.words);
+    }
+}
+
+/// The folder of the examples, which stands beside that of the Rust text.
+fn folder() -> Option<PathBuf> {
+    let folder = Path::new(oracle::TEXT?).join("../../marked");
+    folder.is_dir().then_some(folder)
+}
+
+/// Both files of a request have one line an example. The answers of k were written before the mark, and end there.
+#[test]
+fn files_of_the_examples() {
+    let Some(folder) = folder() else {
+        println!("left out, since the folder of the examples is not at hand");
+        return;
+    };
+    let lines = |name: String| {
+        let text = fs::read_to_string(folder.join(name)).expect("the file is there");
+        let lines = text.lines().map(|line| hex::read(line.as_bytes()));
+        lines.collect::<Option<Vec<_>>>().expect("digits")
+    };
+    for (letter, examples) in requests::by_request() {
+        let (frames, answers) = (
+            lines(format!("{letter}.hex")),
+            lines(format!("{letter}.answers")),
+        );
+        let length = if letter == 'k' {
+            RETIRED
+        } else {
+            LONGEST_ANSWER
+        };
+        assert_eq!([frames.len(), answers.len()], [examples.len(); 2]);
+        for (example, (frame, marked)) in examples.iter().zip(frames.iter().zip(&answers)) {
+            assert!(example.frame == *frame, "frame of {}", example.words);
+            assert_eq!(marked.len(), length, "{}", example.words);
+            assert!(answer(example).starts_with(marked), "{}", example.words);
+        }
     }
 }

@@ -1,11 +1,17 @@
 //! The stored frames are those that `store` writes, and hold what they are to hold.
 #![cfg(rust_text)]
 
-use frames::codec::{decode, Asked};
+use cases::calls::Given;
+use frames::codec::{decode, Asked, RETIRED, STATUS};
 use frames::{hex, stored, wanted};
+use records::SatCache;
 use std::collections::HashSet;
 use std::fs;
 use std::path::Path;
+
+fn is_end(byte: &u8) -> bool {
+    *byte == b'\n'
+}
 
 fn read(name: &str) -> Vec<u8> {
     let folder = Path::new(env!("CARGO_MANIFEST_DIR")).join("../../crates/contact");
@@ -23,13 +29,13 @@ fn answers_are_those_that_are_wanted() {
     assert!(wanted::to_input(&read("stdin")) == Some(read("stdout")));
 }
 
-/// The first rule that hull A or hull B of a call breaks.
-fn broken_rule(line: &[u8], side: usize) -> u8 {
+/// What a call's line asks.
+fn given(line: &[u8]) -> Given {
     let frame = hex::read(line).expect("a call is digits");
-    let Ok(Asked::Call(mut given)) = decode(&frame) else {
+    let Ok(Asked::Call(given)) = decode(&frame) else {
         panic!("the line is no call");
     };
-    given.side(side).broken_rule()
+    given
 }
 
 /// Each fault, each refusal that can be met, each rule of either hull, each type of cache and each count of points; the last line lacks its end.
@@ -37,11 +43,11 @@ fn broken_rule(line: &[u8], side: usize) -> u8 {
 fn all_that_must_be_is_stored() {
     let (input, output) = (read("stdin"), read("stdout"));
     assert_ne!(input.last(), Some(&b'\n'));
-    let lines: Vec<&[u8]> = input.split(|&byte| byte == b'\n').collect();
+    let lines: Vec<&[u8]> = input.split(is_end).collect();
     let answers: Vec<&[u8]> = output
         .strip_suffix(b"\n")
         .expect("a line end")
-        .split(|&byte| byte == b'\n')
+        .split(is_end)
         .collect();
     assert_eq!(lines.len(), answers.len());
     let begins: HashSet<&[u8]> = answers.iter().map(|answer| &answer[..4]).collect();
@@ -57,7 +63,9 @@ fn all_that_must_be_is_stored() {
             .iter()
             .zip(&answers)
             .filter(|(_, answer)| answer.starts_with(refusal));
-        let rules: HashSet<u8> = refused.map(|(line, _)| broken_rule(line, side)).collect();
+        let rules: HashSet<u8> = refused
+            .map(|(line, _)| given(line).side(side).broken_rule())
+            .collect();
         assert_eq!(rules, HashSet::from_iter(1..=8), "hull {side}");
     }
     let accepted = lines
@@ -77,6 +85,39 @@ fn all_that_must_be_is_stored() {
         assert!(
             counts.contains(format!("{count:02x}").as_bytes()),
             "{count} points"
+        );
+    }
+}
+
+/// Each retired type, accepted with the mark, and with a capacity below 4 without; and such a type under each refusal that
+/// does not ask for another, without the mark.
+#[test]
+fn retired_types_are_stored() {
+    let (input, output) = (read("stdin"), read("stdout"));
+    let mut met = HashSet::new();
+    for (line, answer) in input.split(is_end).zip(output.split(is_end)) {
+        let answer = hex::read(answer).expect("an answer is digits");
+        if answer[0] != 0x92 {
+            continue;
+        }
+        let given = given(line);
+        if given.cache.has_retired_type() {
+            let small = given.capacity < 4;
+            met.insert((answer[STATUS], answer[RETIRED], small, given.cache.kind));
+        }
+    }
+    for kind in SatCache::RETIRED_TYPES {
+        assert!(met.contains(&(0, 1, false, kind)), "type {kind}");
+        assert!(
+            met.contains(&(0, 0, true, kind)),
+            "type {kind}, a capacity below 4"
+        );
+    }
+    for refusal in [1, 2, 3, 5, 6] {
+        let stored = |kind| met.contains(&(refusal, 0, false, kind));
+        assert!(
+            SatCache::RETIRED_TYPES.into_iter().any(stored),
+            "refusal {refusal}"
         );
     }
 }

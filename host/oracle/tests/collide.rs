@@ -241,7 +241,8 @@ fn no_face_panics() {
     assert_eq!(points(f32::NAN), None);
 }
 
-/// Cache type 6 searches and builds the contact of face A: the cube's top against the pyramid's lowest lane.
+/// The text's cache type 6, which is retired in ours, is a door to its contact of face A: the cube's top against the pyramid's
+/// lowest lane.
 #[test]
 fn padding_lane_that_wins_panics() {
     let points = |padding_z| {

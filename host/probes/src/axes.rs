@@ -51,7 +51,6 @@ mod linked {
             links_b_len: usize,
             size_b: HullSize,
             transform: Transform,
-            early: bool,
         ) -> Searched;
     }
 }
@@ -71,10 +70,10 @@ impl Placed {
     }
 }
 
-/// The search of an axis between two hulls, B placed in A's frame. With `early` it stops at the first new best strictly
-/// above the speculative distance.
+/// The search of an axis between two hulls, B placed in A's frame. It stops at the first new best strictly above the
+/// speculative distance.
 #[inline]
-pub fn compute_separating_axis(a: Accepted, b: Accepted, placed: Placed, early: bool) -> Searched {
+pub fn compute_separating_axis(a: Accepted, b: Accepted, placed: Placed) -> Searched {
     unsafe {
         linked::probe_compute_separating_axis(
             a.numbers.as_ptr(),
@@ -88,7 +87,6 @@ pub fn compute_separating_axis(a: Accepted, b: Accepted, placed: Placed, early: 
             b.links.len(),
             b.size,
             placed.0,
-            early,
         )
     }
 }

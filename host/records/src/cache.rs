@@ -23,6 +23,10 @@ impl SatCache {
         hit: 0,
     };
 
+    /// The types that are retired: they asked for manual searches, and saved runs still hold them. They act as type 0, and a
+    /// call that reads one says so ([`Outcome::retired_type_read`](crate::Outcome::retired_type_read)).
+    pub const RETIRED_TYPES: [u8; 3] = [6, 7, 8];
+
     /// The separation along the axis, in metres; below zero where the hulls overlap.
     #[inline]
     pub fn separation(&self) -> f32 {
@@ -39,11 +43,16 @@ impl SatCache {
             2 => CacheKind::FaceA { face: index_a },
             3 => CacheKind::FaceB { face: index_b },
             4 => CacheKind::Edges { index_a, index_b },
-            6 => CacheKind::OnlyFaceA,
-            7 => CacheKind::OnlyFaceB,
-            8 => CacheKind::OnlyEdges,
-            0..=1 | 5 | 9..=255 => CacheKind::Nothing,
+            number if self.has_retired_type() => CacheKind::Retired { number },
+            _ => CacheKind::Nothing,
         }
+    }
+
+    /// Whether its type is one of [`SatCache::RETIRED_TYPES`]. No call leaves such a type but where it keeps the cache as it
+    /// was: a refused one, and one with a capacity below 4.
+    #[inline]
+    pub fn has_retired_type(&self) -> bool {
+        SatCache::RETIRED_TYPES.contains(&self.kind)
     }
 
     /// Whether the last call was served by the axis of the one before.
@@ -64,12 +73,8 @@ pub enum CacheKind {
     FaceB { face: u8 },
     /// A pair of edges, each by the even one of its two half-edges.
     Edges { index_a: u8, index_b: u8 },
-    /// The next call searches for a face of A alone.
-    OnlyFaceA,
-    /// The next call searches for a face of B alone.
-    OnlyFaceB,
-    /// The next call searches for a pair of edges alone.
-    OnlyEdges,
+    /// No axis either: one of [`SatCache::RETIRED_TYPES`].
+    Retired { number: u8 },
 }
 
 impl fmt::Display for CacheKind {
@@ -81,9 +86,7 @@ impl fmt::Display for CacheKind {
             CacheKind::Edges { index_a, index_b } => {
                 write!(f, "edge {index_a} of A across edge {index_b} of B")
             }
-            CacheKind::OnlyFaceA => write!(f, "a face of A to be searched for"),
-            CacheKind::OnlyFaceB => write!(f, "a face of B to be searched for"),
-            CacheKind::OnlyEdges => write!(f, "a pair of edges to be searched for"),
+            CacheKind::Retired { number } => write!(f, "no axis (type {number} is retired)"),
         }
     }
 }

@@ -13,7 +13,7 @@ pub use rule::Rule;
 
 /// The number of these records and of the functions that take them. The library has the number that it was built with
 /// (`contact_abi`), and the header has it too (`CONTACT_ABI`); where two of them differ, nothing is called.
-pub const ABI: u32 = 1;
+pub const ABI: u32 = 2;
 
 /// The most points of a contact, and the least capacity with which a call does any work.
 pub const MAX_MANIFOLD_POINTS: usize = 4;
@@ -129,6 +129,8 @@ pub struct Outcome {
     pub status: u8,
     /// Empty where the call was refused.
     pub contact: Contact,
+    /// 1 where the call was accepted, had a capacity of 4 or more and read a cache of a retired type; else 0.
+    pub retired: u8,
 }
 
 impl Outcome {
@@ -151,5 +153,12 @@ impl Outcome {
             None => Ok(self.contact),
             Some(refusal) => Err(refusal),
         }
+    }
+
+    /// Whether the cache that was read had a retired type ([`SatCache::RETIRED_TYPES`]), as saved runs still have: it served
+    /// as an empty one. Not told of a call that was refused or had a capacity below 4, since both keep the cache as it was.
+    #[inline]
+    pub fn retired_type_read(&self) -> bool {
+        self.retired != 0
     }
 }

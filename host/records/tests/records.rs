@@ -21,7 +21,7 @@ fn layouts() {
     lies!(FeaturePair, 4, owner1 0, index1 1, owner2 2, index2 3);
     lies!(Point, 20, position 0, separation 12, pair 16);
     lies!(Contact, 96, points 0, normal 80, count 92);
-    lies!(Outcome, 100, status 0, contact 4);
+    lies!(Outcome, 104, status 0, contact 4, retired 100);
 }
 
 #[test]
@@ -40,12 +40,21 @@ fn refusals() {
 fn outcomes() {
     let mut contact = Contact::EMPTY;
     contact.count = 2;
-    let outcome = Outcome { status: 0, contact };
+    let outcome = Outcome {
+        status: 0,
+        contact,
+        retired: 1,
+    };
     assert_eq!(outcome.points().len(), 2);
     assert_eq!(outcome.accepted(), Ok(contact));
-    let contact = Contact::EMPTY;
-    let refused = Outcome { status: 6, contact };
+    assert!(outcome.retired_type_read());
+    let refused = Outcome {
+        status: 6,
+        contact: Contact::EMPTY,
+        retired: 0,
+    };
     assert_eq!(refused.accepted(), Err(Refusal::CutFull));
+    assert!(!refused.retired_type_read());
 }
 
 /// The lengths that the sizes ask for, and none where no list is so long.
@@ -116,10 +125,14 @@ fn caches() {
     assert_eq!(words(2), "face 7 of A");
     assert_eq!(words(3), "face 9 of B");
     assert_eq!(words(4), "edge 7 of A across edge 9 of B");
-    assert_eq!(words(6), "a face of A to be searched for");
-    assert_eq!(words(7), "a face of B to be searched for");
-    assert_eq!(words(8), "a pair of edges to be searched for");
+    assert_eq!(words(6), "no axis (type 6 is retired)");
+    assert_eq!(words(7), "no axis (type 7 is retired)");
+    assert_eq!(words(8), "no axis (type 8 is retired)");
     for kind in (0..=1).chain([5]).chain(9..=255) {
         assert_eq!(words(kind), "no axis", "{kind}");
+    }
+    for kind in 0..=255 {
+        let retired = SatCache { kind, ..cache }.has_retired_type();
+        assert_eq!(retired, (6..=8).contains(&kind), "{kind}");
     }
 }

@@ -59,8 +59,8 @@ found-along-requires c κs = let b = c .before .before .before in
     let a = b .before .before in
     let s = a .before .before .before .before .before .before in
     let is-found : Lead → _ = λ lead. lead .found in (
-      ap is-found (a .side-a .ensures) ∙ found-a _ (s .pre .0) (s .pre .1) (s .pre .2) _,
-      ap is-found (b .side-b .ensures) ∙ found-b _ (s .pre .0) (s .pre .1) (s .pre .2) _,
+      ap is-found (a .side-a .ensures) ∙ found-a _ (s .pre .0) (s .pre .1) (s .pre .2),
+      ap is-found (b .side-b .ensures) ∙ found-b _ (s .pre .0) (s .pre .1) (s .pre .2),
     )
 
 returns-4 : tie.Need-returns-4

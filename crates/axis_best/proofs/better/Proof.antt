@@ -1,21 +1,17 @@
 -- `better`: the test picks the definition's case.
-use borrow.Author.Needs.{needs}
 use mathlib.Core.Bool.{true, false}
 use mathlib.Core.Path.{_≡_}
 use lib.Ieee.{lt}
-use Rattle.axis_best.specs.Leads.{betterOf}
+use Rattle.axis_best.specs.Leads.{stopsOf, betterOf}
 use Rattle.axis_best.proofs.better.Statement.{statement}
 use Rattle.axis_best.proofs.better.Tie as tie
 
-stops-requires : tie.Need-stops-requires
-stops-requires c κs = search needs
-
 returns : tie.Need-returns
-unfolding betterOf
+unfolding betterOf stopsOf
 returns c =
-    let a = c .before .before .before .args in
-    let above : lt (a .lead .separation) (a .separation) ≡ true = c .before .if1 .taken in
-    simp (above, c .stops .ensures)
+    let a = c .before .before .args in
+    let above : lt (a .lead .separation) (a .separation) ≡ true = c .if1 .taken in
+    simp above
 
 returns-2 : tie.Need-returns-2
 unfolding betterOf
@@ -25,4 +21,4 @@ returns-2 c =
     simp below
 
 pub better-spec : {M : Type 1} → statement M
-better-spec = tie.close (tie.spec stops-requires returns returns-2)
+better-spec = tie.close (tie.spec returns returns-2)

@@ -18,16 +18,16 @@ use Rattle.axis_pairs.proofs.scan_rows.Statement.{statement}
 use Rattle.axis_pairs.proofs.scan_rows.Tie as tie
 
 abbrev Inv-loop : tie.InvT-loop
-Inv-loop early table n numbers links size normals turned points links-b size-b m along₀ list₀ out₀ lead₀ j₀ along list out lead j =
-    (j ≤ m) × (lead ≡ leadAfter (λ i. rowPairs early (edgeOfA size numbers links) n (edgeIn turned points size-b links-b i) i) noneOf j)
+Inv-loop table n numbers links size normals turned points links-b size-b m along₀ list₀ out₀ lead₀ j₀ along list out lead j =
+    (j ≤ m) × (lead ≡ leadAfter (λ i. rowPairs (edgeOfA size numbers links) n (edgeIn turned points size-b links-b i) i) noneOf j)
     × (lead .apart ≡ false) × (length along ≡ 128) × (length list ≡ 128) × (length out ≡ 128)
 
 abbrev μ-loop : tie.MeasureT-loop
-μ-loop early table n numbers links size normals turned points links-b size-b m along₀ list₀ out₀ lead₀ j₀ along list out lead j = m - j
+μ-loop table n numbers links size normals turned points links-b size-b m along₀ list₀ out₀ lead₀ j₀ along list out lead j = m - j
 
 abbrev step : tie.Start Inv-loop μ-loop → ℕ → Lead → Lead
 step c = let a = c .args in
-    λ j. rowPairs (a .early) (edgeOfA (a .size) (a .numbers .now) (a .links .now)) (a .n)
+    λ j. rowPairs (edgeOfA (a .size) (a .numbers .now) (a .links .now)) (a .n)
     (edgeIn (a .turned .now) (a .points .now) (a .size-b) (a .links-b .now) j) j
 
 -- one turn more
@@ -41,7 +41,7 @@ turned c =
     .before .before .before .before .args in
     goes-on (step (c .before .before .before .before .before .before .before .before .before .before .before .before .before .before .before
     .before .before .before .before .before)) noneOf (l .j) (l .lead) (c .scan-row .result) (l .inv .1) (l .inv .2)
-    (row-turn (a .early) (edgeOfA (a .size) (a .numbers .now) (a .links .now)) (a .n) (edgeIn (a .turned .now) (a .points .now) (a .size-b)
+    (row-turn (edgeOfA (a .size) (a .numbers .now) (a .links .now)) (a .n) (edgeIn (a .turned .now) (a .points .now) (a .size-b)
     (a .links-b .now) (l .j)) (c .before .before .before .before .before .before .edge-of-b .result) (l .j) (l .lead) (c .scan-row .result)
     (c .scan-row .ensures .0) (c .before .before .before .before .before .before .edge-of-b .ensures))
 

@@ -91,7 +91,7 @@ returns c =
     let a = s .args in
     let scan = c .before .before .scan in
     pairs-same (a .r) (a .position) (a .size-b) (a .numbers-b .now) (a .links-b .now) _ _ (s .pre .3)
-    (turned .turned-normals .ensures) (points .turned-points .ensures) (a .early) _ _
+    (turned .turned-normals .ensures) (points .turned-points .ensures) _ _
     (a .size-b .«half_edges» / 2) (scan .result) (scan .ensures) (omega arith)
 
 pub search-with-spec : {M : Type 1} → statement M

@@ -28,7 +28,7 @@ returns c =
     let f = c .before .before .before .before .before in
     let s = f .before .before .before .before .before .before .before .before .before .before in
     let a = s .args in (
-      row-none (a .early) (a .size) (a .numbers .now) (a .links .now) (a .n) (a .normals .now) (a .b) (a .j) (a .start) (a .table .now) (a .p)
+      row-none (a .size) (a .numbers .now) (a .links .now) (a .n) (a .normals .now) (a .b) (a .j) (a .start) (a .table .now) (a .p)
           (a .q) (s .pre .0) _ (f .sift .result) (f .sift .ensures .3) (c .if1 .taken),
       s .pre .1,
       f .sift .ensures .1,
@@ -60,7 +60,7 @@ sift-again-requires c κs =
       f .sift .ensures .1,
       few,
       f .sift .ensures .2,
-      first-below (a .early) (a .size) (a .numbers .now) (a .links .now) (a .n) (a .normals .now) (a .b) (a .j) (a .start) (a .table .now)
+      first-below (a .size) (a .numbers .now) (a .links .now) (a .n) (a .normals .now) (a .b) (a .j) (a .start) (a .table .now)
           (a .p) (a .q) (s .pre .0) _ (f .sift .result) (f .sift .ensures .3) (omega (arith, few, f .sift .ensures .1)),
     )
 
@@ -80,7 +80,7 @@ scan-list-requires c κs =
       s .pre .0 .low,
       g .sift-again .ensures .1,
       few,
-      later-below (a .early) (a .size) (a .numbers .now) (a .links .now) (a .n) (a .normals .now) (a .b) (a .j) (a .start) (a .table .now)
+      later-below (a .size) (a .numbers .now) (a .links .now) (a .n) (a .normals .now) (a .b) (a .j) (a .start) (a .table .now)
           (a .p) (a .q) (s .pre .0) _ (f .sift .result) (f .sift .ensures .3) _ _ (g .sift-again .result)
           (omega (arith, few, g .sift-again .ensures .1)) (g .sift-again .ensures .2),
       s .pre .0 .going,
@@ -110,7 +110,7 @@ returns-2 c =
     let s = f .before .before .before .before .before .before .before .before .before .before in
     let a = s .args in
     let row = fewer (a .size .faces) (omega arith) (fill .fill-row .ensures) in (
-      row-some (a .early) (a .size) (a .numbers .now) (a .links .now) (a .n) (a .normals .now) (a .b) (a .j) (a .start) (a .table .now) (a .p)
+      row-some (a .size) (a .numbers .now) (a .links .now) (a .n) (a .normals .now) (a .b) (a .j) (a .start) (a .table .now) (a .p)
           (a .q) (s .pre .0) _ (f .sift .result) (f .sift .ensures .3) _ _ row (omega (arith, s .pre .1, s .pre .0 .fit .f-high)) _
           (g .sift-again .result) (c .scan-list .result)
           (omega (arith, g .sift-again .ensures .0, g .sift-again .ensures .1, f .sift .ensures .0, s .pre .0 .few, s .pre .0 .edges-in .fit .h-high))

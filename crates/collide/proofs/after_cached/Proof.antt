@@ -24,7 +24,7 @@ accepted-with-requires c κs = search needs
 
 returns-2 : tie.Need-returns-2
 returns-2 c = let a = c .before .before .before .before .before .before .before .before .before .before .args in
-    c .accepted-with .ensures ∙ ap (λ (next : SatCache). accepted (a .cached .contact) next) (c .before .hit-set .ensures)
+    c .accepted-with .ensures ∙ ap (λ (next : SatCache). accepted 0 (a .cached .contact) next) (c .before .hit-set .ensures)
     ∙ cached-hit (a .size-a) (a .numbers-a .now) (a .links-a .now) (a .size-b) (a .numbers-b .now) (a .links-b .now) (a .transform) (a .cache)
     (a .cached) (c .before .before .before .before .if1 .left) (c .before .before .before .if2 .taken)
 

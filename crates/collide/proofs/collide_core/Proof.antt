@@ -31,7 +31,7 @@ returns : tie.Need-returns
 returns c = let s = c .before .before .before .before .before .before .before in
     let a = s .args in
     let small : ltZ (a .capacity) (pos 4) ≡ true = as-compared s ∙ c .before .before .if1 .taken in
-    c .accepted-with .ensures ∙ ap (λ (contact : Contact). accepted contact (a .cache)) (c .before .empty-contact .ensures)
+    c .accepted-with .ensures ∙ ap (λ (contact : Contact). accepted 0 contact (a .cache)) (c .before .empty-contact .ensures)
     ∙ too-small (a .size-a) (a .numbers-a .now) (a .links-a .now) (a .size-b) (a .numbers-b .now) (a .links-b .now) (a .transform)
     (a .cache) (a .capacity) small
 

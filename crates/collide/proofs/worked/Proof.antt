@@ -1,111 +1,71 @@
 -- `worked`: the type picks the work, and what the cache names is there.
 use mathlib.Core.Path.{ap, _∙_}
-use mathlib.Core.Logic.{⊎-elim}
 use borrow.Author.Needs.{needs}
 use Rattle.collide_outcome.specs.declared.Built.{Built}
 use Rattle.collide_outcome.specs.declared.Cached.{Cached}
 use Rattle.collide_outcome.specs.Answers.{answerOf}
 use Rattle.collide.specs.Call.{afterCached}
 use Rattle.collide_refusals.proofs.Cases.{face-a-there, face-b-there, edges-there}
-use Rattle.collide.proofs.Steps.{at-2, at-3, at-4, at-5, at-6, at-7, at-8, at-rest}
+use Rattle.collide.proofs.Steps.{at-2, at-3, at-4, at-rest}
 use Rattle.collide.proofs.worked.Statement.{statement}
 use Rattle.collide.proofs.worked.Tie as tie
 
 cached-face-a-requires : tie.Need-cached-face-a-requires
 cached-face-a-requires c κs = let s = c .before .before .before .before .before in
-    (s .pre .0, s .pre .1, face-a-there (s .args .size-a) (s .args .size-b) (s .args .cache) (s .pre .3) (c .match .keys2))
+    (s .pre .0, s .pre .1, face-a-there (s .args .size-a) (s .args .size-b) (s .args .cache) (s .pre .3) (c .match .keys1))
 
 after-cached-requires : tie.Need-after-cached-requires
 after-cached-requires c κs = search needs
 
 cached-face-b-requires : tie.Need-cached-face-b-requires
 cached-face-b-requires c κs = let s = c .before .before .before .before .before in
-    (s .pre .0, s .pre .1, face-b-there (s .args .size-a) (s .args .size-b) (s .args .cache) (s .pre .3) (c .match .keys3))
+    (s .pre .0, s .pre .1, face-b-there (s .args .size-a) (s .args .size-b) (s .args .cache) (s .pre .3) (c .match .keys2))
 
 after-cached-requires-2 : tie.Need-after-cached-requires-2
 after-cached-requires-2 c κs = search needs
 
 cached-edge-requires : tie.Need-cached-edge-requires
 cached-edge-requires c κs = let s = c .before .before .before .before .before in
-    let there = edges-there (s .args .size-a) (s .args .size-b) (s .args .cache) (s .pre .3) (c .match .keys4) (s .pre .0 .links-fit .h-even)
+    let there = edges-there (s .args .size-a) (s .args .size-b) (s .args .cache) (s .pre .3) (c .match .keys3) (s .pre .0 .links-fit .h-even)
     (s .pre .1 .links-fit .h-even) in
     (s .pre .0, s .pre .1, there .0, there .1)
 
 after-cached-requires-3 : tie.Need-after-cached-requires-3
 after-cached-requires-3 c κs = search needs
 
-manual-face-a-requires : tie.Need-manual-face-a-requires
-manual-face-a-requires c κs = search needs
-
-answer-of-requires : tie.Need-answer-of-requires
-answer-of-requires c κs = search needs
-
-manual-face-b-requires : tie.Need-manual-face-b-requires
-manual-face-b-requires c κs = search needs
-
-answer-of-requires-2 : tie.Need-answer-of-requires-2
-answer-of-requires-2 c κs = search needs
-
-manual-edge-requires : tie.Need-manual-edge-requires
-manual-edge-requires c κs = search needs
-
-answer-of-requires-3 : tie.Need-answer-of-requires-3
-answer-of-requires-3 c κs = search needs
-
 full-search-requires : tie.Need-full-search-requires
 full-search-requires c κs = search needs
 
-answer-of-requires-4 : tie.Need-answer-of-requires-4
-answer-of-requires-4 c κs = search needs
+answer-of-requires : tie.Need-answer-of-requires
+answer-of-requires c κs = search needs
 
 returns : tie.Need-returns
 returns c = let a = c .before .before .before .before .before .before .before .args in
     c .after-cached .ensures ∙ ap (λ (cached : Cached). afterCached (a .size-a) (a .numbers-a .now) (a .links-a .now) (a .size-b)
     (a .numbers-b .now) (a .links-b .now) (a .transform) (a .cache) cached) (c .before .cached-face-a .ensures)
     ∙ at-2 (a .size-a) (a .numbers-a .now) (a .links-a .now) (a .size-b) (a .numbers-b .now) (a .links-b .now) (a .transform) (a .cache)
-    (c .before .before .match .keys2)
+    (c .before .before .match .keys1)
 
 returns-2 : tie.Need-returns-2
 returns-2 c = let a = c .before .before .before .before .before .before .before .args in
     c .after-cached2 .ensures ∙ ap (λ (cached : Cached). afterCached (a .size-a) (a .numbers-a .now) (a .links-a .now) (a .size-b)
     (a .numbers-b .now) (a .links-b .now) (a .transform) (a .cache) cached) (c .before .cached-face-b .ensures)
     ∙ at-3 (a .size-a) (a .numbers-a .now) (a .links-a .now) (a .size-b) (a .numbers-b .now) (a .links-b .now) (a .transform) (a .cache)
-    (c .before .before .match .keys3)
+    (c .before .before .match .keys2)
 
 returns-3 : tie.Need-returns-3
 returns-3 c = let a = c .before .before .before .before .before .before .before .args in
     c .after-cached3 .ensures ∙ ap (λ (cached : Cached). afterCached (a .size-a) (a .numbers-a .now) (a .links-a .now) (a .size-b)
     (a .numbers-b .now) (a .links-b .now) (a .transform) (a .cache) cached) (c .before .cached-edge .ensures)
     ∙ at-4 (a .size-a) (a .numbers-a .now) (a .links-a .now) (a .size-b) (a .numbers-b .now) (a .links-b .now) (a .transform) (a .cache)
-    (c .before .before .match .keys4)
+    (c .before .before .match .keys3)
 
 returns-4 : tie.Need-returns-4
 returns-4 c = let a = c .before .before .before .before .before .before .before .args in
-    c .answer-of .ensures ∙ ap (λ (built : Built). answerOf (a .cache) built) (c .before .manual-face-a .ensures)
-    ∙ at-6 (a .size-a) (a .numbers-a .now) (a .links-a .now) (a .size-b) (a .numbers-b .now) (a .links-b .now) (a .transform) (a .cache)
-    (c .before .before .match .keys5)
-
-returns-5 : tie.Need-returns-5
-returns-5 c = let a = c .before .before .before .before .before .before .before .args in
-    c .answer-of2 .ensures ∙ ap (λ (built : Built). answerOf (a .cache) built) (c .before .manual-face-b .ensures)
-    ∙ at-7 (a .size-a) (a .numbers-a .now) (a .links-a .now) (a .size-b) (a .numbers-b .now) (a .links-b .now) (a .transform) (a .cache)
-    (c .before .before .match .keys6)
-
-returns-6 : tie.Need-returns-6
-returns-6 c = let a = c .before .before .before .before .before .before .before .args in
-    c .answer-of3 .ensures ∙ ap (λ (built : Built). answerOf (a .cache) built) (c .before .manual-edge .ensures)
-    ∙ at-8 (a .size-a) (a .numbers-a .now) (a .links-a .now) (a .size-b) (a .numbers-b .now) (a .links-b .now) (a .transform) (a .cache)
-    (c .before .before .match .keys7)
-
-returns-7 : tie.Need-returns-7
-returns-7 c = let a = c .before .before .before .before .before .before .before .args in
-    c .answer-of4 .ensures ∙ ap (λ (built : Built). answerOf (a .cache) built) (c .before .full-search .ensures)
-    ∙ ⊎-elim (λ one. at-5 (a .size-a) (a .numbers-a .now) (a .links-a .now) (a .size-b) (a .numbers-b .now) (a .links-b .now) (a .transform)
-    (a .cache) (one .keys1))
-    (λ none. at-rest (a .size-a) (a .numbers-a .now) (a .links-a .now) (a .size-b) (a .numbers-b .now) (a .links-b .now) (a .transform)
-    (a .cache) (none .rest .0 .0 .0 .0 .0 .1) (none .rest .0 .0 .0 .0 .1) (none .rest .0 .0 .0 .1) (none .rest .0 .0 .1) (none .rest .0 .1)
-    (none .rest .1))
-    (c .before .before .match .came)
+    let rest = c .before .before .match .rest in
+    c .answer-of .ensures ∙ ap (λ (built : Built). answerOf (a .cache) built) (c .before .full-search .ensures)
+    ∙ at-rest (a .size-a) (a .numbers-a .now) (a .links-a .now) (a .size-b) (a .numbers-b .now) (a .links-b .now) (a .transform) (a .cache)
+    (rest .0 .0 .1) (rest .0 .1) (rest .1)
 
 pub worked-spec : {M : Type 1} → statement M
 worked-spec =
@@ -117,18 +77,9 @@ worked-spec =
     after-cached-requires-2
     cached-edge-requires
     after-cached-requires-3
-    manual-face-a-requires
-    answer-of-requires
-    manual-face-b-requires
-    answer-of-requires-2
-    manual-edge-requires
-    answer-of-requires-3
     full-search-requires
-    answer-of-requires-4
+    answer-of-requires
     returns
     returns-2
     returns-3
-    returns-4
-    returns-5
-    returns-6
-    returns-7)
+    returns-4)

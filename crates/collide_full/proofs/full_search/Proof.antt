@@ -21,7 +21,7 @@ enum-known-found c = search needs
 found-contact-requires : tie.Need-found-contact-requires
 found-contact-requires c κs = let s = c .before .before .before .before .before .before .before .before .before .before in
     let search = c .before .before .before .before .before .compute-separating-axis in
-    let inside = found-in (s .args .transform) (s .pre .0) (s .pre .1) _ _ (sym (c .before .before .before .found .given .1) ∙ search .ensures) in
+    let inside = found-in (s .args .transform) (s .pre .0) (s .pre .1) _ (sym (c .before .before .before .found .given .1) ∙ search .ensures) in
     (s .pre .0, s .pre .1, inside .0, inside .1, inside .2)
 
 returns : tie.Need-returns

@@ -1,9 +1,10 @@
--- One line a turn: the answers so far stand in `out`, and each takes at most 207 places.
+-- One line a turn: the answers so far stand in `out`, and each takes at most `longestTold` places.
 use Prim.Native.Nat.{_≤_, _<_, _+_, _-_, _*_}
 use mathlib.Core.Path.{_≡_, refl, _∙_}
 use native.Mathlib.Omega.{arith}
 use lib.ListN.{length, length-take, length-drop}
 use borrow.Rule.Slice.PartMut.{same-len-mid}
+use Rattle.stream_pending.specs.Ends.{longestTold}
 use Rattle.stream.specs.Tells.{Tells}
 use Rattle.stream.proofs.Tells.{tells-none, tells-next, moves}
 use mathlib.Core.Path.{_≡_, refl}
@@ -16,7 +17,7 @@ use Rattle.stream.proofs.tell_part.Statement.{statement}
 use Rattle.stream.proofs.tell_part.Tie as tie
 
 abbrev Inv-loop : tie.InvT-loop
-Inv-loop chunk line₀ out₀ i₀ q₀ n₀ line out i q n = (n ≤ length out₀) × (n ≤ 207 * i) × (length line ≡ length line₀) × (length out ≡ length out₀)
+Inv-loop chunk line₀ out₀ i₀ q₀ n₀ line out i q n = (n ≤ length out₀) × (n ≤ longestTold * i) × (length line ≡ length line₀) × (length out ≡ length out₀)
     × Tells chunk line₀ q₀ out₀ (record { taken = i; held = q; count = n }) line out
 
 abbrev μ-loop : tie.MeasureT-loop
@@ -88,7 +89,8 @@ same-length-2 c = omega arith
 returns : tie.Need-returns Inv-loop μ-loop
 returns c = let g = c .before .goes-on .ensures .1 (c .if1 .left) in
     let ends : c .before .before .loop .i < length (c .before .before .before .before .before .before .args .chunk .now)
-    → length (c .before .before .before .before .before .before .args .out .now) < c .before .before .loop .n + 207 = λ l. let h = g l in omega arith in (
+    → length (c .before .before .before .before .before .before .args .out .now) < c .before .before .loop .n + longestTold =
+    λ l. let h = g l in omega arith in (
       moves _ _ _ _ (c .before .before .loop .inv .1) (c .before .before .before .before .before .before .pre .2)
           (c .before .before .before .before .before .before .pre .0) ends,
       omega arith,

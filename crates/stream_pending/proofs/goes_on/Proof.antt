@@ -2,6 +2,7 @@
 use native.Mathlib.Omega.{arith}
 use Prim.Native.Nat.{_-_}
 use borrow.Author.Tests.{leb-true, leb-false}
+use Rattle.stream_pending.specs.Ends.{longestTold}
 use Rattle.stream_pending.proofs.Holds.{differ}
 use mathlib.Core.Path.{refl}
 use borrow.Author.Needs.{needs}
@@ -13,9 +14,9 @@ sub-result c = search needs
 
 returns : tie.Need-returns
 returns c = let a = c .before .args in (
-  λ e. let h = leb-true 207 (a .room - a .n) e in
+  λ e. let h = leb-true longestTold (a .room - a .n) e in
       (c .if1 .taken, omega arith),
-  λ e l. let h = leb-false 207 (a .room - a .n) e in omega arith,
+  λ e l. let h = leb-false longestTold (a .room - a .n) e in omega arith,
 )
 
 returns-2 : tie.Need-returns-2

@@ -9,7 +9,7 @@ use oracle::math_functions::mul_add;
 use oracle::transcribed::End;
 use records::{HullSize, SatCache};
 
-/// Any type that acts as type 0.
+/// Any type that acts as type 0 and is not retired.
 pub fn of_full_search(n: &mut Numbers) -> SatCache {
     let kind = [0, 0, 1, 5, 9 + n.below(247) as u8][n.below(5)];
     SatCache { kind, ..any(n) }
@@ -22,7 +22,7 @@ pub fn aimed(work: &Work, a: HullSize, b: HullSize, n: &mut Numbers) -> SatCache
     let mut cache = naming(kind, a, b, n);
     match n.below(4) {
         0 | 1 => {
-            let query = work.search(false);
+            let query = work.search_to_end();
             let axis = [query.face_a, query.face_b, query.edge][usize::from(kind) - 2];
             if axis.index_a >= 0 {
                 (cache.index_a, cache.index_b) = (axis.index_a as u8, axis.index_b as u8);

@@ -10,7 +10,6 @@ use crate::sorts::places::{any_edges, anyhow, edge_on_edge, Spin};
 use crate::sorts::{padded, Sort};
 use crate::{convert, Numbers, SLOP};
 use oracle::math_functions::*;
-use records::SatCache;
 use std::cmp::Ordering;
 
 /// Beside those that the searches go through.
@@ -160,22 +159,10 @@ fn levelled(work: &mut Work, n: &mut Numbers) -> Option<Transform> {
 
 /// The edge pair's separation beside that of the face contact and the slop, where there are both.
 fn edge_beside_face(work: &Work) -> Option<Ordering> {
-    let query = work.search(false);
-    let kind = if query.face_a.separation > query.face_b.separation {
-        6
-    } else {
-        7
-    };
-    let face = work.answer(
-        4,
-        SatCache {
-            kind,
-            ..SatCache::EMPTY
-        },
-    );
-    if query.edge.index_a < 0 || face.outcome.contact.count == 0 {
+    let query = work.search_to_end();
+    let least = work.face_separation(&query)? + SLOP;
+    if query.edge.index_a < 0 {
         return None;
     }
-    let least = f32::from_bits(face.cache.separation) + SLOP;
     query.edge.separation.partial_cmp(&least)
 }

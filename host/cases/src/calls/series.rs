@@ -26,10 +26,10 @@ impl<'a> Series<'a> {
         }
     }
 
-    /// Twelve calls: cached axes, manual searches, and caches carried from call to call.
+    /// Twelve calls: cached axes, a retired type, and caches carried from call to call.
     pub fn twelve(&mut self, n: &mut Numbers) {
         self.cached(n);
-        self.manual(n);
+        self.retired(n);
         self.warm(n);
     }
 
@@ -64,9 +64,9 @@ impl<'a> Series<'a> {
         self.transform = convert::our_transform(self.pair.transform);
     }
 
-    /// A manual search, and a call that is handed its cache.
-    fn manual(&mut self, n: &mut Numbers) {
-        let kind = 6 + n.below(3) as u8;
+    /// A cache of a retired type, and a call that is handed the next one.
+    fn retired(&mut self, n: &mut Numbers) {
+        let kind = SatCache::RETIRED_TYPES[n.below(3)];
         let cache = SatCache { kind, ..any(n) };
         let next = self.call(4, cache).cache;
         self.step(STEPS[n.below(4)], n);
@@ -101,6 +101,23 @@ impl<'a> Series<'a> {
                 let cache = naming(kind, a, b, n);
                 self.call(4, SatCache { index_a, ..cache });
                 self.call(4, SatCache { index_b, ..cache });
+            }
+        }
+    }
+
+    /// Each of these types with every index_a and every index_b, and with a capacity on either side of 4.
+    pub fn with_every_index(&mut self, types: impl Iterator<Item = u8>, n: &mut Numbers) {
+        for kind in types {
+            let apart = n.word() as u8;
+            for index_a in 0..=255u8 {
+                let cache = SatCache {
+                    kind,
+                    index_a,
+                    index_b: index_a.wrapping_add(apart),
+                    ..any(n)
+                };
+                self.call(3, cache);
+                self.call(4, cache);
             }
         }
     }

@@ -5,10 +5,10 @@ use crate::convert;
 use crate::pairs::Pair;
 use oracle::hull::HullData;
 use oracle::math_functions::Transform;
-use oracle::open::{self, collide_hulls, search, AxisQuery, LocalManifold};
+use oracle::open::{self, collide_hulls, search, AxisQuery, LocalManifold, SeparatingFeature};
 use oracle::quiet;
 use oracle::transcribed::{again, Again, End};
-use records::{Contact, Outcome, SatCache};
+use records::{Contact, Outcome, SatCache, MAX_MANIFOLD_POINTS};
 
 /// The bits of a NaN that a call works out.
 const NAN: u32 = 0x7fc0_0000;
@@ -45,18 +45,47 @@ impl Work {
         }
     }
 
-    /// The text's answer to a cache whose numbers are in range.
+    /// The text's answer to a cache whose numbers are in range, with a capacity of 4 or more. The text still has the types
+    /// that are retired; "such a cache now acts as type 0" (document 02, j), and so it is handed to the text.
     pub fn answer(&self, capacity: i32, cache: SatCache) -> Answer {
-        let made = quiet(|| {
-            let (mut manifold, mut next) = (LocalManifold::default(), convert::cache(cache));
-            let (a, b) = (&self.a, &self.b);
-            collide_hulls(&mut manifold, capacity, a, b, self.transform, &mut next);
-            (manifold, next)
-        });
-        match made {
-            Some((manifold, next)) => accepted(&manifold, cache, next),
-            None => empty(self.panicked(cache), cache),
+        let mut read = cache;
+        if cache.has_retired_type() {
+            read.kind = 0;
         }
+        match self.collided(capacity, convert::cache(read)) {
+            Some((manifold, next)) => accepted(&manifold, cache, next),
+            None => empty(self.panicked(read), cache),
+        }
+    }
+
+    /// What the text's call makes, and the next cache; none where it panics.
+    fn collided(
+        &self,
+        capacity: i32,
+        mut cache: open::SatCache,
+    ) -> Option<(LocalManifold, open::SatCache)> {
+        quiet(move || {
+            let mut manifold = LocalManifold::default();
+            let (a, b) = (&self.a, &self.b);
+            collide_hulls(&mut manifold, capacity, a, b, self.transform, &mut cache);
+            (manifold, cache)
+        })
+    }
+
+    /// The separation of the contact on the face that wins, where it touches: what stands before a pair of edges is tried.
+    /// The text's own types 6 and 7 are a door to it, since they build on a face of A or of B and end there.
+    pub fn face_separation(&self, query: &AxisQuery) -> Option<f32> {
+        let door = if a_wins(query) {
+            SeparatingFeature::ManualFaceAxisA
+        } else {
+            SeparatingFeature::ManualFaceAxisB
+        };
+        let cache = open::SatCache {
+            type_: door as u8,
+            ..open::SatCache::default()
+        };
+        let (manifold, next) = self.collided(MAX_MANIFOLD_POINTS as i32, cache)?;
+        (manifold.point_count > 0).then_some(next.separation)
     }
 
     /// How far the text gets with the cached axis, where the cache has one.
@@ -64,8 +93,14 @@ impl Work {
         again(&self.a, &self.b, self.transform, &convert::cache(cache))
     }
 
-    pub fn search(&self, early: bool) -> AxisQuery {
-        search(&self.a, &self.b, self.transform, early)
+    /// The search of a call, which stops at the first new best strictly above the speculative distance.
+    pub fn search(&self) -> AxisQuery {
+        search(&self.a, &self.b, self.transform, true)
+    }
+
+    /// The best axis of each kind, however far apart the hulls are.
+    pub fn search_to_end(&self) -> AxisQuery {
+        search(&self.a, &self.b, self.transform, false)
     }
 
     /// The refusal that the text's panic stands for: "5, 6 as the work meets them", after a cached face. The text also
@@ -74,8 +109,8 @@ impl Work {
         if self.again(cache).is_some_and(|a| a.end == End::Full) {
             return 6;
         }
-        let query = self.search(!(6..=8).contains(&cache.kind));
-        let (face, vertex, vertices) = self.picked(cache.kind, &query);
+        let query = self.search();
+        let (face, vertex, vertices) = self.picked(&query);
         assert!(face >= 0, "the text has no face to pick: {query:?}");
         if (vertex as usize) < vertices {
             6
@@ -84,22 +119,25 @@ impl Work {
         }
     }
 
-    /// The face that a full or manual search picks for a contact, its support vertex, and how many vertices there are.
-    fn picked(&self, kind: u8, query: &AxisQuery) -> (i32, i32, usize) {
+    /// The face that a full search picks for a contact, its support vertex, and how many vertices there are.
+    fn picked(&self, query: &AxisQuery) -> (i32, i32, usize) {
         let (a, b) = (query.face_a, query.face_b);
-        let of_a = (a.index_a, a.index_b, self.b.points.len());
-        let of_b = (b.index_b, b.index_a, self.a.points.len());
-        match kind {
-            6 => of_a,
-            7 => of_b,
-            _ if a.separation > b.separation => of_a,
-            _ => of_b,
+        if a_wins(query) {
+            (a.index_a, a.index_b, self.b.points.len())
+        } else {
+            (b.index_b, b.index_a, self.a.points.len())
         }
     }
 }
 
+/// "Face A wins only if strictly above face B".
+fn a_wins(query: &AxisQuery) -> bool {
+    query.face_a.separation > query.face_b.separation
+}
+
 /// What the text made of the cache, with document 01's two rules added: what is not filled is zero, and a NaN that was
-/// worked out has fixed bits. The text leaves the separation where there is a hit and where type 8 stays.
+/// worked out has fixed bits. The text leaves the separation where there is a hit. The mark is document 02's (j): "set only
+/// on accepted calls with capacity 4 or more".
 fn accepted(manifold: &LocalManifold, cache: SatCache, next: open::SatCache) -> Answer {
     let mut contact = Contact::EMPTY;
     let made = &manifold.points[..manifold.point_count as usize];
@@ -112,14 +150,17 @@ fn accepted(manifold: &LocalManifold, cache: SatCache, next: open::SatCache) -> 
     }
     let bits = next.separation.to_bits();
     let nan = bits & 0x7fff_ffff > 0x7f80_0000;
-    let kept = next.hit == 1 || next.type_ == 8;
-    let separation = match (nan, kept) {
-        (true, true) => cache.separation,
-        (true, false) => NAN,
+    let separation = match (nan, next.hit) {
+        (true, 1) => cache.separation,
+        (true, _) => NAN,
         _ => bits,
     };
     Answer {
-        outcome: Outcome { status: 0, contact },
+        outcome: Outcome {
+            status: 0,
+            contact,
+            retired: u8::from(cache.has_retired_type()),
+        },
         cache: SatCache {
             separation,
             kind: next.type_,

@@ -65,7 +65,7 @@ pub fn pair_of_kind(turn: usize, kind: fn(&mut Numbers) -> Solid, n: &mut Number
     }
 }
 
-/// Twelve calls: cached axes, manual searches, caches carried from call to call.
+/// Twelve calls: cached axes, a retired type, caches carried from call to call.
 #[cfg(rust_text)]
 pub fn on_pair(pair: Pair, n: &mut Numbers) -> Vec<Frame> {
     let mut frames = Vec::new();

@@ -84,7 +84,8 @@ fn cubes() -> Vec<Vec<u8>> {
 }
 
 /// "A 64-gon that loses one corner is refusal 6": on a block's face, shifted so that one corner goes over its edge or
-/// none does; and one corner fewer, which is accepted.
+/// none does; and one corner fewer, which is accepted. It is cut along the sides of the block's face, but for type 6: that is
+/// retired and acts as type 0, the two faces tie, so B's is taken, and the block's face is cut along its sides.
 fn round() -> Vec<Vec<u8>> {
     let top = Shape::new(&block([1.0, 5.0, 1.0]));
     let mut frames = Vec::new();

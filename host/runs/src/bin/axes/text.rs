@@ -1,9 +1,10 @@
 //! What is held to the Rust text itself.
 
+use cases::calls::Work;
 use cases::pairs::Pair;
 use cases::sorts::{acceptable, SORTS};
 use cases::{convert, met, one_in, Numbers, Tally};
-use oracle::open::{search, AxisQuery, SeparatingFeature};
+use oracle::open::{AxisQuery, SeparatingFeature};
 use probes::Placed;
 use runs::accepted;
 use runs::searches::{answer, same_answers};
@@ -28,7 +29,7 @@ pub fn run(n: &mut Numbers, count: usize) -> bool {
     for (name, make) in SORTS {
         let mut t = Tally::default();
         for _ in 0..count {
-            searches(&mut t, &mut m, &acceptable(make, n));
+            searched(&mut t, &mut m, &acceptable(make, n));
         }
         good &= t.report(&format!("axis searches, {name}"));
     }
@@ -47,20 +48,16 @@ pub fn run(n: &mut Numbers, count: usize) -> bool {
     ])
 }
 
-/// One pair of hulls, with the early stop and without.
-fn searches(t: &mut Tally, m: &mut Met, pair: &Pair) {
-    let (a, b) = (convert::hull(&pair.a), convert::hull(&pair.b));
-    let (lent_a, lent_b) = (accepted(&pair.a), accepted(&pair.b));
+/// One pair of hulls.
+fn searched(t: &mut Tally, m: &mut Met, pair: &Pair) {
+    let query = Work::of_pair(pair).search();
+    let theirs = answer(&query);
     let placed = Placed::new(convert::our_transform(pair.transform));
-    for early in [true, false] {
-        let query = search(&a, &b, pair.transform, early);
-        let theirs = answer(&query);
-        let ours = probes::compute_separating_axis(lent_a, lent_b, placed, early);
-        t.compare(same_answers(&ours, &theirs), || {
-            format!("early {early}: {ours:?}, {theirs:?}: {pair:?}")
-        });
-        m.add(pair, &query);
-    }
+    let ours = probes::compute_separating_axis(accepted(&pair.a), accepted(&pair.b), placed);
+    t.compare(same_answers(&ours, &theirs), || {
+        format!("{ours:?}, {theirs:?}: {pair:?}")
+    });
+    m.add(pair, &query);
 }
 
 impl Met {

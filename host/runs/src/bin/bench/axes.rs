@@ -1,5 +1,5 @@
-//! The axis search of settled logs beside the Rust text, with the early stop. Every pair is searched once a batch, so
-//! that the line of the whole mix is the mean over its true shares. The hulls and transforms were judged before.
+//! The axis search of settled logs beside the Rust text's, which stops early as ours does. Every pair is searched once a
+//! batch, so that the line of the whole mix is the mean over its true shares. The hulls and transforms were judged before.
 
 use super::{batches, head, line_of, timed_calls};
 use cases::convert;
@@ -28,7 +28,7 @@ struct Pair<'a> {
 impl Pair<'_> {
     fn ours(&self) -> Searched {
         let (a, b, placed) = self.ours;
-        probes::compute_separating_axis(a, b, placed, true)
+        probes::compute_separating_axis(a, b, placed)
     }
 
     fn theirs(&self) -> AxisQuery {

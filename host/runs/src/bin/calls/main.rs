@@ -8,9 +8,11 @@
 //! out, and said so.
 
 use cases::{number_argument, Numbers};
+use retired::Retired;
 
 mod marked;
 mod refusals;
+mod retired;
 #[cfg(rust_text)]
 mod text;
 
@@ -19,14 +21,16 @@ fn main() {
     let n = &mut numbers;
     let count = number_argument(2, "COUNT", 700) as usize;
     let mut good = marked::rows().report("document 01's runs of a call");
-    good &= refusals::run(n, count);
+    let mut retired = Retired::default();
+    good &= refusals::run(n, count, &mut retired);
     #[cfg(rust_text)]
     {
-        good &= text::run(n, count);
+        good &= text::run(n, count, &mut retired);
     }
     #[cfg(not(rust_text))]
     println!(
         "left out, since the Rust text is not at hand: calls that are not refused before any work"
     );
+    good &= retired.report(count);
     std::process::exit(if good { 0 } else { 1 });
 }

@@ -1,24 +1,37 @@
-//! Refusals before any work, one rule broken or several, and capacities below 4, with which nothing is looked at.
+//! Refusals before any work, one rule broken or several, and capacities below 4, with which nothing is looked at; each with
+//! any cache and with each retired type.
 
+use crate::retired::Retired;
 use cases::calls::broken::{hull, transform, Broken};
 use cases::calls::{caches, empty, same_answers, Call, Given};
 use cases::{met, one_in, Numbers, Tally};
-use records::{HullLists, HullSize};
+use records::{HullLists, HullSize, SatCache};
 use runs::ours;
 
-pub fn run(n: &mut Numbers, count: usize) -> bool {
+pub fn run(n: &mut Numbers, count: usize, retired: &mut Retired) -> bool {
     let (mut refused, mut small) = (Tally::default(), Tally::default());
     let (mut alone, mut first) = ([0; 4], [0; 4]);
     for _ in 0..count {
         for set in 1..16 {
             let broken: Broken = [0, 1, 2, 3].map(|bit| set >> bit & 1 == 1);
             let place = broken.iter().take_while(|&&broken| !broken).count();
-            one(&mut refused, broken, place as u8 + 1, n);
+            one(&mut refused, retired, &Given::any(broken, n), place);
             let several = broken[place + 1..].contains(&true);
             [&mut alone, &mut first][usize::from(several)][place] += 1;
         }
-        capacity(&mut small, n);
-        capacity(&mut small, n);
+        for _ in 0..2 {
+            capacity(&mut small, retired, caches::any(n), n);
+        }
+        for kind in SatCache::RETIRED_TYPES {
+            // Hull A, hull B or the transform: a cache of such a type breaks no rule.
+            for place in 0..3 {
+                let mut given = Given::any([0, 1, 2, 3].map(|own| own == place), n);
+                given.cache.kind = kind;
+                one(&mut refused, retired, &given, place);
+            }
+            let cache = caches::any(n);
+            capacity(&mut small, retired, SatCache { kind, ..cache }, n);
+        }
     }
     let ([a, b, transform, cache], [first_a, first_b, first_transform, _]) = (alone, first);
     let least = one_in(1, count);
@@ -35,18 +48,18 @@ pub fn run(n: &mut Numbers, count: usize) -> bool {
         & small.report("capacities below 4")
 }
 
-/// One call with these broken, which is refused by this number.
-fn one(t: &mut Tally, broken: Broken, number: u8, n: &mut Numbers) {
-    let given = Given::any(broken, n);
-    let call = given.call();
-    let ours = ours(&call);
-    let right = call.refusal() == number && same_answers(&ours, &empty(number, call.cache));
+/// One call of which the part at this place is the first that is broken, which is refused by the number after it.
+fn one(t: &mut Tally, m: &mut Retired, given: &Given, place: usize) {
+    let (call, number) = (given.call(), place as u8 + 1);
+    let (ours, wanted) = (ours(&call), empty(number, call.cache));
+    let right = call.refusal() == number && same_answers(&ours, &wanted);
     t.compare(right, || format!("refusal {number}: {ours:?}: {call:?}"));
+    m.add(&call, &wanted);
 }
 
 /// One call with a capacity below 4 and anything else: hulls that are good or broken, or lists that are not there under
 /// sizes that no hull has.
-fn capacity(t: &mut Tally, n: &mut Numbers) {
+fn capacity(t: &mut Tally, m: &mut Retired, cache: SatCache, n: &mut Numbers) {
     let shapes = [0; 2].map(|_| hull(n.below(2) == 0, n));
     let sizes = [0, 3, 4, 128, 1 << 40, 1 << 63, usize::MAX];
     let [a, b] = shapes.each_ref().map(|shape| {
@@ -69,10 +82,11 @@ fn capacity(t: &mut Tally, n: &mut Numbers) {
         a,
         b,
         transform: transform(n.below(2) == 0, n),
-        cache: caches::any(n),
+        cache,
     };
-    let ours = ours(&call);
-    t.compare(same_answers(&ours, &empty(0, call.cache)), || {
+    let (ours, wanted) = (ours(&call), empty(0, call.cache));
+    t.compare(same_answers(&ours, &wanted), || {
         format!("capacity below 4: {ours:?}: {call:?}")
     });
+    m.add(&call, &wanted);
 }

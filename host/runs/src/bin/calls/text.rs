@@ -1,48 +1,69 @@
 //! What is held to the Rust text itself.
 
+use crate::retired::Retired;
 use cases::calls::more::{tiny_parts, MORE};
 use cases::calls::series::Series;
 use cases::calls::{same_answers, Answer, Call};
 use cases::sorts::{acceptable, SORTS};
 use cases::{Numbers, Tally};
 use met::Met;
+use records::SatCache;
 use runs::ours;
 
 mod met;
 
-pub fn run(n: &mut Numbers, count: usize) -> bool {
+pub fn run(n: &mut Numbers, count: usize, retired: &mut Retired) -> bool {
     let mut good = true;
-    let mut m = Met::default();
+    let mut all = All {
+        met: Met::default(),
+        retired,
+    };
     for (name, make) in SORTS.into_iter().chain(MORE) {
         let mut t = Tally::default();
         for _ in 0..count {
             let pair = acceptable(make, n);
-            Series::new(pair, &mut |call| held(&mut t, &mut m, call)).twelve(n);
+            Series::new(pair, &mut |call| all.held(&mut t, call)).twelve(n);
         }
         good &= t.report(&format!("calls, {name}"));
     }
     let mut t = Tally::default();
-    for _ in 0..count.div_ceil(100) {
+    let pairs = count.div_ceil(100);
+    for place in 0..pairs {
         let (_, make) = SORTS[n.below(SORTS.len())];
         let pair = acceptable(make, n);
-        Series::new(pair, &mut |call| held(&mut t, &mut m, call)).every_type_and_index(n);
+        let mut ask = |call: &Call| all.held(&mut t, call);
+        let mut series = Series::new(pair, &mut ask);
+        series.every_type_and_index(n);
+        // The types are dealt out to the pairs; the retired ones go to all.
+        let dealt = |kind: &u8| usize::from(*kind) % pairs == place;
+        let own = |kind: &u8| dealt(kind) || SatCache::RETIRED_TYPES.contains(kind);
+        series.with_every_index((0..=255).filter(own), n);
     }
-    good &= t.report("calls, every type and every index");
+    good &= t.report("calls, every type and every index, capacities on both sides of 4");
     let mut t = Tally::default();
     for _ in 0..count.div_ceil(10) {
         let pair = tiny_parts(n);
-        Series::new(pair, &mut |call| held(&mut t, &mut m, call)).every_pair_of_edges(n);
+        Series::new(pair, &mut |call| all.held(&mut t, call)).every_pair_of_edges(n);
     }
     good &= t.report("calls, every pair of edges, normals with tiny parts");
-    good & m.report(count)
+    good & all.met.report(count)
 }
 
-/// One call; the answer that document 01 wants.
-fn held(tally: &mut Tally, met: &mut Met, call: &Call) -> Answer {
-    let (ours, wanted) = (ours(call), call.wanted());
-    tally.compare(same_answers(&ours, &wanted), || {
-        format!("ours {ours:?}, wanted {wanted:?}: {call:?}")
-    });
-    met.add(call, &wanted);
-    wanted
+/// All that was met.
+struct All<'a> {
+    met: Met,
+    retired: &'a mut Retired,
+}
+
+impl All<'_> {
+    /// One call; the answer that document 01 wants.
+    fn held(&mut self, tally: &mut Tally, call: &Call) -> Answer {
+        let (ours, wanted) = (ours(call), call.wanted());
+        tally.compare(same_answers(&ours, &wanted), || {
+            format!("ours {ours:?}, wanted {wanted:?}: {call:?}")
+        });
+        self.met.add(call, &wanted);
+        self.retired.add(call, &wanted);
+        wanted
+    }
 }

@@ -4,12 +4,10 @@ use cached::{Cached, Edges};
 use cases::calls::{Answer, Call, Work};
 use cases::{met, one_in};
 use full::Full;
-use manual::{ManualEdge, ManualFace};
 use oracle::transcribed::End;
 
 mod cached;
 mod full;
-mod manual;
 
 #[derive(Default)]
 pub struct Met {
@@ -17,8 +15,6 @@ pub struct Met {
     cached: [Cached; 3],
     edges: Edges,
     full: Full,
-    faces: [ManualFace; 2],
-    manual_edge: ManualEdge,
     refused: [u64; 7],
     refused_by_cached: u64,
     kept_nan: u64,
@@ -27,6 +23,9 @@ pub struct Met {
 impl Met {
     /// One call and its answer.
     pub fn add(&mut self, call: &Call, wanted: &Answer) {
+        if call.capacity < 4 {
+            return;
+        }
         let (cache, status) = (call.cache, wanted.outcome.status);
         self.refused[usize::from(status)] += 1;
         if (1..=4).contains(&status) {
@@ -35,11 +34,7 @@ impl Met {
         let nan = f32::from_bits(cache.separation).is_nan();
         let kept = status == 0 && wanted.cache.separation == cache.separation;
         self.kept_nan += u64::from(nan && kept);
-        match cache.kind {
-            6 | 7 => self.faces[usize::from(cache.kind) - 6].add(wanted),
-            8 => self.manual_edge.add(wanted),
-            _ => self.add_searched(call, wanted),
-        }
+        self.add_searched(call, wanted);
     }
 
     /// A cached axis, and the full search where there is none or it does not serve again.
@@ -66,10 +61,6 @@ impl Met {
             good &= cached.report(name, count);
         }
         good &= self.edges.report(count) & self.full.report(count);
-        for (face, name) in self.faces.iter().zip(names) {
-            good &= face.report(name, count);
-        }
-        good &= self.manual_edge.report(count);
         let [.., in_cache, padding, full] = self.refused;
         let (often, few) = (one_in(2, count), one_in(50, count));
         good & met(&[

@@ -136,7 +136,9 @@ fn candidates(
     m.one_or_two += u64::from([1, 2].contains(&kept.len()));
 }
 
-/// The text's call with a cache that asks for face A, beside the candidates, their images and the picks.
+/// The text's call with its own cache type 6, beside the candidates, their images and the picks. The type is retired, and here
+/// a door into the text: it builds the contact on the best face of A and ends there, which no function of the text's does that
+/// can be called.
 fn whole(t: &mut Tally, m: &mut Met, both: &Both, face: usize, vertex: usize) {
     let transform = both.pair.transform;
     let theirs = quiet(|| {

@@ -3,7 +3,6 @@
 use cases::calls::{Answer, Work};
 use cases::{met, one_in, SLOP, SPECULATIVE};
 use oracle::open::{AxisQuery, SeparatingFeature};
-use records::SatCache;
 
 #[derive(Default)]
 pub struct Full {
@@ -28,7 +27,7 @@ pub struct Full {
 
 impl Full {
     pub fn add(&mut self, work: &Work, wanted: &Answer) {
-        let query = work.search(true);
+        let query = work.search();
         match (wanted.outcome.status, query.separated_feature) {
             (5, _) => self.padding += 1,
             (6, _) => self.cut_full += 1,
@@ -52,9 +51,7 @@ impl Full {
             (0, _) if pair => self.nothing_in_vain += 1,
             (0, _) => self.nothing += 1,
             (_, 4) => {
-                let kind = if a > b { 6 } else { 7 };
-                let face = work.answer(4, SatCache { kind, ..cache });
-                let alone = face.outcome.contact.count == 0;
+                let alone = work.face_separation(query).is_none();
                 self.edge_alone += u64::from(alone);
                 self.replaced += u64::from(!alone);
             }
