@@ -17,7 +17,7 @@ while read -r edit; do miss "PROMISES.md does not say what the edit $edit guards
 # `crate: File.antt` stands in that crate's specs/ or proofs/.
 while IFS=': ' read -r crate file; do
     [ -f "crates/$crate/specs/$file" ] || [ -f "crates/$crate/proofs/$file" ] || miss "PROMISES.md leads to $file of $crate, and there is none"
-done < <(grep -ohE '`[a-z_]+: [A-Za-z0-9]+\.antt`' docs/PROMISES.md | tr -d '`' | sort -u)
+done < <(grep -ohE '`[a-z_]+: [A-Za-z0-9/]+\.antt`' docs/PROMISES.md | tr -d '`' | sort -u)
 
 # The table of README.md: crate/specs/File.antt has the names that stand behind it.
 while IFS= read -r line; do

@@ -1,6 +1,5 @@
 -- What the search finds has numbers in range: its faces are faces of their hulls, its pair of edges half-edges. Assumes nothing.
 use Prim.Native.Nat.{ℕ, _*_, _<_}
-use mathlib.Core.Bool.{Bool, true, false, cond}
 use mathlib.Core.List.{List}
 use native.Mathlib.Omega.{arith}
 use lib.Ieee as Ieee
@@ -14,7 +13,8 @@ use Rattle.hull.specs.Accepted.{Accepted}
 use Rattle.axis_best.specs.declared.Lead.{Lead}
 use Rattle.axis_best.specs.Leads.{noneOf, newBest, betterOf}
 use Rattle.axis_best.proofs.Searches.{holds}
-use Rattle.axis_faces.specs.Faces.{faceTakenOf, faceSearchWith, faceSearchOf}
+use Rattle.axis_faces.specs.declared.Side.{Side}
+use Rattle.axis_faces.specs.Faces.{faceTakenOf, faceSearchOf}
 use Rattle.axis_edges.specs.declared.EdgeA.{EdgeA}
 use Rattle.axis_edges.specs.declared.EdgeB.{EdgeB}
 use Rattle.axis_edges.specs.Edges.{passesOf, parallelOf, triedOf, edgePairOf, rowPairs, dotRight}
@@ -32,14 +32,15 @@ module _ (P : Lead → Type 0) where
   unfolding betterOf
   better-keeps normal separation a b lead new p = picked P (Ieee.lt (lead .separation) separation) (new normal separation) p
 
-  -- of the faces of one side; own says which of the two numbers is the face's
-  side-keeps : (own : Bool) (turn : Rows) (position : Vec3) (s : HullSize) (n : List Float) (t : HullSize) (m : List Float) → P noneOf
-      → ((f v : ℕ) → f < s .faces → cond own (New f v) (New v f)) → P (faceSearchOf own turn position s n t m)
-  unfolding faceSearchOf faceSearchWith faceTakenOf
-  side-keeps true turn position s n t m none new =
-      holds P _ noneOf (s .faces) none (λ f h lead p. better-keeps _ _ f _ lead (new f _ h) p)
-  side-keeps false turn position s n t m none new =
-      holds P _ noneOf (s .faces) none (λ f h lead p. better-keeps _ _ _ f lead (new f _ h) p)
+  -- of the faces of one side: of A's the first number is the face's, of B's the second
+  module _ (turn : Rows) (position : Vec3) (s : HullSize) (n : List Float) (t : HullSize) (m : List Float) (none : P noneOf) where
+    side-a-keeps : ((f v : ℕ) → f < s .faces → New f v) → P (faceSearchOf Side.A turn position s n t m)
+    unfolding faceSearchOf faceTakenOf
+    side-a-keeps new = holds P _ noneOf (s .faces) none (λ f h lead p. better-keeps _ _ f _ lead (new f _ h) p)
+
+    side-b-keeps : ((f v : ℕ) → f < s .faces → New v f) → P (faceSearchOf Side.B turn position s n t m)
+    unfolding faceSearchOf faceTakenOf
+    side-b-keeps new = holds P _ noneOf (s .faces) none (λ f h lead p. better-keeps _ _ _ f lead (new f _ h) p)
 
   pair-keeps : (a : EdgeA) (b : EdgeB) (i j : ℕ) (lead : Lead) → New (2 * i) (2 * j) → P lead → P (edgePairOf a b i j lead)
   unfolding edgePairOf triedOf
@@ -71,9 +72,9 @@ module _ {s t : HullSize} {n m : List Float} {l k : List ℕ} (x : Transform) (a
   unfolding searchOf sideOfA sideOfB pairsOf
   in-range =
       answer-in-range s t _ _ _
-      (side-keeps (λ (lead : Lead). lead .«index_a» < s .faces) true _ (x .p) s n t m (omega (arith, a .numbers-fit .f-low))
+      (side-a-keeps (λ (lead : Lead). lead .«index_a» < s .faces) _ (x .p) s n t m (omega (arith, a .numbers-fit .f-low))
       (λ f v h normal separation. h))
-      (side-keeps (λ (lead : Lead). lead .«index_b» < t .faces) false _ (x .p) t m s n (omega (arith, b .numbers-fit .f-low))
+      (side-b-keeps (λ (lead : Lead). lead .«index_b» < t .faces) _ (x .p) t m s n (omega (arith, b .numbers-fit .f-low))
       (λ f v h normal separation. h))
       (pairs-keep (λ (lead : Lead). (lead .«index_a» < s .«half_edges») × (lead .«index_b» < t .«half_edges»)) _ _ _ _
       (omega (arith, a .links-fit .h-low), omega (arith, b .links-fit .h-low)) (λ i j g h normal separation. (omega (arith, g), omega (arith, h))))

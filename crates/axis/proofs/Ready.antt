@@ -12,8 +12,8 @@ use Rattle.rotation.proofs.Bounded.{matrix-below, transpose-below}
 use Rattle.hull_links.specs.declared.HullSize.{HullSize}
 use Rattle.hull_limits.specs.Transform.{Placed}
 use Rattle.hull.specs.Accepted.{Accepted}
-use Rattle.axis_faces.specs.Ready.{Facing}
-use Rattle.axis_edges.specs.Ready.{EdgesIn}
+use Rattle.axis_faces.specs.inner.Ready.{Facing}
+use Rattle.axis_edges.specs.inner.Ready.{EdgesIn}
 
 pub edges-in : {s : HullSize} {n : List Float} {l : List ℕ} → Accepted s n l → EdgesIn s l
 edges-in ok = record { fit = ok .links-fit; origin-in = ok .origin-in; face-in = ok .face-in }

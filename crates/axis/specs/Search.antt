@@ -1,13 +1,14 @@
 -- "The axis search answers .. an axis apart with its separation, face A and face B with the edge pair": one of these two, since request k showed that
 -- on accepted input each side has a face (proofs/Always.antt). Definitions only.
 use Prim.Native.Nat.{ℕ, _/_}
-use mathlib.Core.Bool.{true, false, cond}
+use mathlib.Core.Bool.{cond}
 use mathlib.Core.List.{List}
 use lib.Ieee.{Float}
 use Rattle.vector.specs.declared.Transform.{Transform}
 use Rattle.rotation.specs.Rotation.{matrixOf, transposeOf}
 use Rattle.hull_links.specs.declared.HullSize.{HullSize}
 use Rattle.axis_best.specs.declared.Lead.{Lead}
+use Rattle.axis_faces.specs.declared.Side.{Side}
 use Rattle.axis_faces.specs.Faces.{faceSearchOf}
 use Rattle.axis_edges.specs.Edges.{edgeOfA, edgeOfB}
 use Rattle.axis_pairs.specs.All.{allPairs}
@@ -37,10 +38,10 @@ searchAnswerOf a b edge = cond (a .apart) (apartOf 2 a) (cond (b .apart) (apartO
 
 -- the three searches
 unfoldable pub sideOfA : HullSize → List Float → HullSize → List Float → Transform → Lead
-sideOfA s n t m x = faceSearchOf true (transposeOf (matrixOf (x .q))) (x .p) s n t m
+sideOfA s n t m x = faceSearchOf Side.A (transposeOf (matrixOf (x .q))) (x .p) s n t m
 
 unfoldable pub sideOfB : HullSize → List Float → HullSize → List Float → Transform → Lead
-sideOfB s n t m x = faceSearchOf false (matrixOf (x .q)) (x .p) t m s n
+sideOfB s n t m x = faceSearchOf Side.B (matrixOf (x .q)) (x .p) t m s n
 
 unfoldable pub pairsOf : HullSize → List Float → List ℕ → HullSize → List Float → List ℕ → Transform → Lead
 pairsOf s n l t m k x = allPairs (edgeOfA s n l) (s .«half_edges» / 2) (edgeOfB (matrixOf (x .q)) (x .p) t m k) (t .«half_edges» / 2)

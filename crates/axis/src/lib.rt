@@ -6,6 +6,7 @@ ghost use Rattle.hull_limits.specs.Transform.{Placed};
 ghost use Rattle.hull.specs.Accepted.{Accepted};
 ghost use Rattle.axis.specs.Search.{axisOf, apartOf, edgeOf, foundOf, sideOfA, sideOfB, pairsOf, searchOf};
 use axis_best::Lead;
+use axis_faces::Side;
 use hull_links::HullSize;
 use vector::Transform;
 use vector::Vec3;
@@ -110,7 +111,7 @@ fn side_a(
 {
     let inverse = rotation::transpose(r);
     axis_faces::search_faces(
-        true,
+        Side::A,
         inverse,
         transform.p,
         numbers_a,
@@ -135,7 +136,15 @@ fn side_b(
         × (r ≡ matrixOf (transform .q)) ⌝ }
     ensures { λ x. ⌜ x ≡ sideOfB «size_a» (now («numbers_a» .entry)) «size_b» (now («numbers_b» .entry)) transform ⌝ }
 {
-    axis_faces::search_faces(false, r, transform.p, numbers_b, size_b, numbers_a, size_a)
+    axis_faces::search_faces(
+        Side::B,
+        r,
+        transform.p,
+        numbers_b,
+        size_b,
+        numbers_a,
+        size_a,
+    )
 }
 
 // A's edges against B's.

@@ -6,7 +6,7 @@ use native.Mathlib.Omega.{arith}
 use lib.Ieee.{Float}
 use Rattle.hull_links.specs.declared.HullSize.{HullSize}
 use Rattle.hull_links.specs.Links.{padded, origin, face, NumbersFit}
-use Rattle.axis_edges.specs.Ready.{EdgesIn}
+use Rattle.axis_edges.specs.inner.Ready.{EdgesIn}
 
 below : (x y k : ℕ) → x ≡ y → y < k → x < k
 below x y k q h = subst (λ (z : ℕ). z < k) (sym q) h

@@ -1,2 +1,2 @@
 pub mod Edges
-pub mod Ready
+pub mod inner

@@ -4,7 +4,7 @@ ghost use mathlib.Core.Path.{_≡_};
 ghost use Prim.Native.Nat.{_+_, _*_, _<_};
 ghost use Rattle.hull_links.specs.Links.{NumbersFit};
 ghost use Rattle.axis_edges.specs.Edges.{dotRight, differenceOf, sumOf, edgeOfA, parallelOf, betweenOf, axisAcrossOf, edgeSeparationOf, triedOf};
-ghost use Rattle.axis_edges.specs.Ready.{EdgesIn};
+ghost use Rattle.axis_edges.specs.inner.Ready.{EdgesIn};
 use axis_best::Lead;
 use hull_links::HullSize;
 use vector::Vec3;

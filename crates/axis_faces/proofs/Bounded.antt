@@ -1,16 +1,16 @@
 -- Bounds of the numbers of the face phase: what keeps each of them finite. Assumes nothing.
-use mathlib.Core.Bool.{Bool, cond}
 use lib.Ieee.{Float, ofBits}
 use Rattle.bounds.specs.Bound.{Below}
-use Rattle.bounds.proofs.Laws.{constant, more, added, multiplied, subtracted, picked, dot3, dot3-right}
+use Rattle.bounds.proofs.Laws.{constant, added, multiplied, subtracted, dot3, dot3-right}
 use Rattle.vector.specs.declared.Vec3.{Vec3}
 use Rattle.vector.specs.Bounded.{VecBelow}
-use Rattle.vector.proofs.Bounded.{neg-below, abs-below, dot-below}
+use Rattle.vector.proofs.Bounded.{more-below, neg-below, abs-below, dot-below}
 use Rattle.rotation.specs.Rotation.{Rows}
 use Rattle.rotation.specs.Bounded.{RowsBelow}
 use Rattle.rotation.proofs.Bounded.{mul-mv-below}
+use Rattle.axis_faces.specs.declared.Side.{Side}
 use Rattle.axis_faces.specs.Support.{supportValueOf}
-use Rattle.axis_faces.specs.Faces.{biasOf, directionOf, exactOf, faceSeparationOf}
+use Rattle.axis_faces.specs.Faces.{biasOf, directionOf, exactOf, faceAxisOf, faceSeparationOf}
 
 pub direction-below : {turn : Rows} {normal : Vec3} → RowsBelow 5 turn → VecBelow 1 normal → VecBelow 8 (directionOf turn normal)
 unfolding directionOf
@@ -28,9 +28,11 @@ pub exact-below : {d v : Vec3} → VecBelow 8 d → VecBelow 22 v → Below 32 (
 unfolding exactOf
 exact-below p q = dot3 tt (p .on-x) (p .on-y) (p .on-z) (q .on-x) (q .on-y) (q .on-z)
 
--- a normal as it stands, or as the turn makes it
-pub axis-below : (own : Bool) {normal d : Vec3} → VecBelow 1 normal → VecBelow 8 d → VecBelow 8 (cond own normal d)
-axis-below own p q = picked (VecBelow 8) own (record { on-x = more 8 tt (p .on-x); on-y = more 8 tt (p .on-y); on-z = more 8 tt (p .on-z) }) q
+-- a normal as it stands, or the direction
+pub axis-below : (side : Side) {normal d : Vec3} → VecBelow 1 normal → VecBelow 8 d → VecBelow 8 (faceAxisOf side normal d)
+unfolding faceAxisOf
+axis-below Side.A p q = more-below 8 tt p
+axis-below Side.B p q = q
 
 pub separation-below : {axis position : Vec3} {offset support : Float} → VecBelow 8 axis → VecBelow 22 position → Below 23 offset
     → Below 32 support → Below 34 (faceSeparationOf axis position offset support)

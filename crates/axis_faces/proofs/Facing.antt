@@ -1,7 +1,7 @@
 -- The loop over faces: each face gives the support search what it asks for, its parts together are the face, and the turns make the whole search.
 -- Assumes nothing.
 use mathlib.Core.Path.{_≡_, sym, ap, _∙_, subst}
-use mathlib.Core.Bool.{Bool, true, false, cond}
+use mathlib.Core.Bool.{true, false}
 use mathlib.Core.List.{List}
 use Prim.Native.Nat.{ℕ, _+_, _<_, _≤_}
 use lib.Ieee.{Float}
@@ -19,64 +19,63 @@ use Rattle.axis_best.specs.declared.Lead.{Lead}
 use Rattle.axis_best.specs.Leads.{noneOf, leadAfter}
 use Rattle.axis_best.proofs.Searches.{begins, goes-on, stays}
 use Rattle.axis_faces.specs.declared.Face.{Face}
+use Rattle.axis_faces.specs.declared.Side.{Side}
 use Rattle.axis_faces.specs.Support.{supportOf}
-use Rattle.axis_faces.specs.Faces.{biasOf, directionOf, exactOf, faceSeparationOf, farthestVertexOf, faceOf, faceTakenOf, faceSearchWith}
-use Rattle.axis_faces.specs.Ready.{SupportReady, Facing, FacesReady}
+use Rattle.axis_faces.specs.Faces.{biasOf, directionOf, exactOf, faceAxisOf, faceSeparationOf, farthestVertexOf, faceTakenOf, faceOf, faceSearchOf}
+use Rattle.axis_faces.specs.inner.Ready.{SupportReady, Facing, FacesReady}
 use Rattle.axis_faces.proofs.Bounded.{direction-below, bias-below}
 
 module _ {turn : Rows} {position : Vec3} {s : HullSize} {n : List Float} {t : HullSize} {m : List Float} where
   pub direction-near : Facing turn position s n t m → (f : ℕ) → f < s .faces → VecBelow 8 (directionOf turn (planeAt s n f .normal))
   direction-near F f h = direction-below (F .turn-below) (F .normals-below f h)
 
-  -- the middle and the half-sizes of a box whose corners are coordinates
+  -- the middle and the half-sizes, from the box as the code reads it
   pub faces-ready : Facing turn position s n t m → (space : Aabb) (center extents : Vec3) → space ≡ boxOf m → center ≡ centerOf space
       → extents ≡ extentsOf space → FacesReady turn position s n t m center extents
-  faces-ready F space center extents e p q =
-      record {
-        facing = F;
-        center-below = subst (VecBelow 23) (sym (p ∙ ap centerOf e)) (center-below (F .lower-below) (F .upper-below));
-        extents-below = subst (VecBelow 23) (sym (q ∙ ap extentsOf e)) (extents-below (F .lower-below) (F .upper-below));
-      }
+  faces-ready F space center extents e p q = record { facing = F; center-is = p ∙ ap centerOf e; extents-is = q ∙ ap extentsOf e }
 
-  -- what the code hands to the support search for face f
+  -- what the code hands to the support search for face f; the box's corners are coordinates, so its middle and half-sizes are bounded
   pub support-ready : {center extents : Vec3} → FacesReady turn position s n t m center extents → (f : ℕ) → f < s .faces
       → (plane : Plane) (d : Vec3) (bias : Float) → plane ≡ planeAt s n f → d ≡ directionOf turn (plane .normal) → bias ≡ biasOf d center extents
       → SupportReady bias d t m
   support-ready R f h plane d bias p q e =
-      let near : VecBelow 8 d = subst (VecBelow 8) (sym (q ∙ ap (λ (x : Plane). directionOf turn (x .normal)) p)) (direction-near (R .facing) f h) in
+      let F = R .facing in
+      let near : VecBelow 8 d = subst (VecBelow 8) (sym (q ∙ ap (λ (x : Plane). directionOf turn (x .normal)) p)) (direction-near F f h) in
+      let center-near = subst (VecBelow 23) (sym (R .center-is)) (center-below (F .lower-below) (F .upper-below)) in
+      let extents-near = subst (VecBelow 23) (sym (R .extents-is)) (extents-below (F .lower-below) (F .upper-below)) in
       record {
-        fit = R .facing .other-fit;
-        bias-below = subst (Below 35) (sym e) (bias-below near (R .center-below) (R .extents-below));
+        fit = F .other-fit;
+        bias-below = subst (Below 35) (sym e) (bias-below near center-near extents-near);
         direction-below = near;
-        vertices-below = R .facing .vertices-below;
+        vertices-below = F .vertices-below;
       }
 
-module _ (own : Bool) (turn : Rows) (position : Vec3) (s : HullSize) (n : List Float) (t : HullSize) (m : List Float) (center extents : Vec3) where
-  pub face-made : (f : ℕ) (plane : Plane) (d : Vec3) (bias : Float) (vertex : ℕ) (at : Vec3) (support : Float) (along : Vec3) (apart : Float)
+module _ (side : Side) (turn : Rows) (position : Vec3) (s : HullSize) (n : List Float) (t : HullSize) (m : List Float) where
+  pub face-made : (f : ℕ) (center extents : Vec3) (plane : Plane) (d : Vec3) (bias : Float) (vertex : ℕ) (at : Vec3) (support : Float) (along : Vec3)
+      (apart : Float) → center ≡ centerOf (boxOf m) → extents ≡ extentsOf (boxOf m)
       → plane ≡ planeAt s n f → d ≡ directionOf turn (plane .normal) → bias ≡ biasOf d center extents → vertex ≡ supportOf bias d t m
       → at ≡ vertexAt t m vertex → support ≡ exactOf d at
-      → along ≡ cond own (plane .normal) d → apart ≡ faceSeparationOf along position (plane .offset) support
-      → _≡_ {A = Face} (record { normal = along; separation = apart; vertex = vertex }) (faceOf own turn position s n t m center extents f)
+      → along ≡ faceAxisOf side (plane .normal) d → apart ≡ faceSeparationOf along position (plane .offset) support
+      → _≡_ {A = Face} (record { normal = along; separation = apart; vertex = vertex }) (faceOf side turn position t m (planeAt s n f))
   unfolding faceOf farthestVertexOf
-  face-made f plane d bias vertex at support along apart hp hd hb hw hv he ha hs = rw (hs, he, hv, hw, hb, ha, hd, hp)
+  face-made f center extents plane d bias vertex at support along apart hc hx hp hd hb hw hv he ha hs = rw (hs, he, hv, hw, hb, ha, hd, hp, hc, hx)
 
   -- the lead after the faces below f
   abbrev pub leadBefore : ℕ → Lead
-  leadBefore = leadAfter (λ f. faceTakenOf own (faceOf own turn position s n t m center extents f) f) noneOf
+  leadBefore = leadAfter (λ f. faceTakenOf side (faceOf side turn position t m (planeAt s n f)) f) noneOf
 
   pub no-face : noneOf ≡ leadBefore 0
   no-face = begins _ noneOf
 
   pub one-face : (f : ℕ) (lead next : Lead) (face : Face) → lead ≡ leadBefore f → lead .apart ≡ false
-      → face ≡ faceOf own turn position s n t m center extents f → next ≡ faceTakenOf own face f lead → next ≡ leadBefore (f + 1)
-  one-face f lead next face p q e h = goes-on _ noneOf f lead next p q (h ∙ ap (λ (x : Face). faceTakenOf own x f lead) e)
+      → face ≡ faceOf side turn position t m (planeAt s n f) → next ≡ faceTakenOf side face f lead → next ≡ leadBefore (f + 1)
+  one-face f lead next face p q e h = goes-on _ noneOf f lead next p q (h ∙ ap (λ (x : Face). faceTakenOf side x f lead) e)
 
   pub stopped-face : (f : ℕ) (lead : Lead) → f ≤ s .faces → lead ≡ leadBefore f → lead .apart ≡ true
-      → lead ≡ faceSearchWith own turn position s n t m center extents
-  unfolding faceSearchWith
+      → lead ≡ faceSearchOf side turn position s n t m
+  unfolding faceSearchOf
   stopped-face f lead h p q = stays _ noneOf (s .faces) f lead h p q
 
-  pub all-faces : (f : ℕ) (lead : Lead) → f ≡ s .faces → lead ≡ leadBefore f
-      → lead ≡ faceSearchWith own turn position s n t m center extents
-  unfolding faceSearchWith
+  pub all-faces : (f : ℕ) (lead : Lead) → f ≡ s .faces → lead ≡ leadBefore f → lead ≡ faceSearchOf side turn position s n t m
+  unfolding faceSearchOf
   all-faces f lead h p = p ∙ ap leadBefore h

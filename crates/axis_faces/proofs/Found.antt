@@ -1,6 +1,6 @@
 -- Every face has a finite separation, so the first becomes the best, and the faces of a hull always give a best one. The bounds are those of the
 -- largest unit. No proof of this crate needs it: callers do. Assumes nothing.
-use mathlib.Core.Path.{_≡_, refl, sym, ap, ap₂, _∙_, subst}
+use mathlib.Core.Path.{_≡_, refl, sym, ap, _∙_, subst}
 use mathlib.Core.Bool.{Bool, true, cond}
 use mathlib.Core.List.{List}
 use Prim.Native.Nat.{ℕ, zero, suc, _-_, _<_}
@@ -10,30 +10,18 @@ use lib.Ieee.{Float, nan, inf, fin, lt, neg, ofBits, div}
 use lib.Ieee.Scale.{finite}
 use Rattle.bounds.proofs.Laws.{is-finite, picked}
 use Rattle.vector.specs.declared.Vec3.{Vec3}
-use Rattle.vector.specs.Shape.{centerOf, extentsOf}
 use Rattle.rotation.specs.Rotation.{Rows}
 use Rattle.hull_links.specs.declared.HullSize.{HullSize}
 use Rattle.hull.specs.Numbers.{boxOf, planeAt}
 use Rattle.axis_best.specs.declared.Lead.{Lead}
 use Rattle.axis_best.specs.Leads.{lowest, noneOf, newBest, betterOf, leadAfter}
 use Rattle.axis_faces.specs.declared.Face.{Face}
-use Rattle.axis_faces.specs.Faces.{biasOf, directionOf, farthestVertexOf, faceOf, faceTakenOf, faceSearchWith, faceSearchOf}
-use Rattle.axis_faces.specs.Ready.{Facing, FacesReady}
+use Rattle.axis_faces.specs.declared.Side.{Side}
+use Rattle.axis_faces.specs.Faces.{biasOf, directionOf, farthestVertexOf, faceTakenOf, faceOf, faceSearchOf}
+use Rattle.axis_faces.specs.inner.Ready.{Facing}
 use Rattle.axis_faces.proofs.Bounded.{exact-below, axis-below, separation-below}
 use Rattle.axis_faces.proofs.Lanes.{support-in}
 use Rattle.axis_faces.proofs.Facing.{direction-near, faces-ready, support-ready}
-
--- ---- separations
-pub face-finite : (own : Bool) {turn : Rows} {position : Vec3} {s : HullSize} {n : List Float} {t : HullSize} {m : List Float} {center extents : Vec3}
-    → FacesReady turn position s n t m center extents → (f : ℕ) → f < s .faces → T (finite (faceOf own turn position s n t m center extents f .separation))
-unfolding faceOf farthestVertexOf
-face-finite own {turn} {position} {s} {n} {t} {m} {center} {extents} R f h =
-    let F = R .facing in
-    let d = directionOf turn (planeAt s n f .normal) in
-    let near = direction-near F f h in
-    let inside = support-in (support-ready R f h (planeAt s n f) d (biasOf d center extents) refl refl refl) in
-    is-finite (separation-below (axis-below own (F .normals-below f h) near) (F .position-below) (F .offsets-below f h)
-    (exact-below near (F .vertices-below _ inside)))
 
 -- ---- the first face takes the lead from minus infinity; those after it keep it or take it
 lowest-is : lowest ≡ inf true
@@ -57,19 +45,26 @@ better-keeps : (normal : Vec3) (x : Float) (a b : ℕ) (lead : Lead) → lead .f
 unfolding betterOf
 better-keeps normal x a b lead p = picked (λ (l : Lead). l .found ≡ true) (lt (lead .separation) x) refl p
 
--- face f as the first to be looked at
-taken-first : (own : Bool) (face : Face) (f : ℕ) → T (finite (face .separation)) → faceTakenOf own face f noneOf
-    ≡ cond own (newBest (face .normal) (face .separation) f (face .vertex)) (newBest (face .normal) (face .separation) (face .vertex) f)
-unfolding faceTakenOf
-taken-first own face f p =
-    ap₂ (cond own) (better-first (face .normal) (face .separation) f (face .vertex) p)
-    (better-first (face .normal) (face .separation) (face .vertex) f p)
+-- a face as a new best, with its two numbers
+unfoldable pub newFace : Side → Face → ℕ → Lead
+newFace Side.A face f = newBest (face .normal) (face .separation) f (face .vertex)
+newFace Side.B face f = newBest (face .normal) (face .separation) (face .vertex) f
 
-taken-keeps : (own : Bool) (face : Face) (f : ℕ) (lead : Lead) → lead .found ≡ true → faceTakenOf own face f lead .found ≡ true
+-- face f as the first to be looked at
+taken-first : (side : Side) (face : Face) (f : ℕ) → T (finite (face .separation)) → faceTakenOf side face f noneOf ≡ newFace side face f
+unfolding faceTakenOf newFace
+taken-first Side.A face f p = better-first (face .normal) (face .separation) f (face .vertex) p
+taken-first Side.B face f p = better-first (face .normal) (face .separation) (face .vertex) f p
+
+new-found : (side : Side) (face : Face) (f : ℕ) → newFace side face f .found ≡ true
+unfolding newFace
+new-found Side.A face f = refl
+new-found Side.B face f = refl
+
+taken-keeps : (side : Side) (face : Face) (f : ℕ) (lead : Lead) → lead .found ≡ true → faceTakenOf side face f lead .found ≡ true
 unfolding faceTakenOf
-taken-keeps own face f lead p =
-    picked (λ (l : Lead). l .found ≡ true) own (better-keeps (face .normal) (face .separation) f (face .vertex) lead p)
-    (better-keeps (face .normal) (face .separation) (face .vertex) f lead p)
+taken-keeps Side.A face f lead p = better-keeps (face .normal) (face .separation) f (face .vertex) lead p
+taken-keeps Side.B face f lead p = better-keeps (face .normal) (face .separation) (face .vertex) f lead p
 
 found-after : (step : ℕ → Lead → Lead) → step 0 noneOf .found ≡ true → ((i : ℕ) (l : Lead) → l .found ≡ true → step i l .found ≡ true)
     → (n : ℕ) → leadAfter step noneOf (suc n) .found ≡ true
@@ -80,25 +75,32 @@ found-after step p q (suc n) =
     let h : before .found ≡ true = found-after step p q n in
     picked (λ (l : Lead). l .found ≡ true) (before .apart) h (q (suc n) before h)
 
-module _ {turn : Rows} {position : Vec3} {s : HullSize} {n : List Float} {t : HullSize} {m : List Float} (F : Facing turn position s n t m) where
-  abbrev face : Bool → ℕ → Face
-  face own = faceOf own turn position s n t m (centerOf (boxOf m)) (extentsOf (boxOf m))
+-- ---- the faces of one side
+module _ (side : Side) {turn : Rows} {position : Vec3} {s : HullSize} {n : List Float} {t : HullSize} {m : List Float} (F : Facing turn position s n t m) where
+  -- face f of hull (s, n)
+  abbrev face : ℕ → Face
+  face f = faceOf side turn position t m (planeAt s n f)
 
-  pub separation-finite : (own : Bool) (f : ℕ) → f < s .faces → T (finite (face own f .separation))
-  separation-finite own = face-finite own (faces-ready F (boxOf m) _ _ refl refl refl)
+  pub separation-finite : (f : ℕ) → f < s .faces → T (finite (face f .separation))
+  unfolding faceOf farthestVertexOf
+  separation-finite f h =
+      let R = faces-ready F (boxOf m) _ _ refl refl refl in
+      let d = directionOf turn (planeAt s n f .normal) in
+      let near = direction-near F f h in
+      let inside = support-in (support-ready R f h (planeAt s n f) d (biasOf d _ _) refl refl refl) in
+      is-finite (separation-below (axis-below side (F .normals-below f h) near) (F .position-below) (F .offsets-below f h)
+      (exact-below near (F .vertices-below _ inside)))
 
   -- the first face becomes the best
-  pub first-best : (own : Bool) → let first = face own 0 in
-      faceTakenOf own first 0 noneOf
-      ≡ cond own (newBest (first .normal) (first .separation) 0 (first .vertex)) (newBest (first .normal) (first .separation) (first .vertex) 0)
-  first-best own = taken-first own (face own 0) 0 (separation-finite own 0 (omega (arith, F .fit .f-low)))
+  pub first-best : faceTakenOf side (face 0) 0 noneOf ≡ newFace side (face 0) 0
+  first-best = taken-first side (face 0) 0 (separation-finite 0 (omega (arith, F .fit .f-low)))
 
   -- so that a face is found
-  pub found : (own : Bool) → faceSearchOf own turn position s n t m .found ≡ true
-  unfolding faceSearchOf faceSearchWith
-  found own =
+  pub found : faceSearchOf side turn position s n t m .found ≡ true
+  unfolding faceSearchOf
+  found =
       let is-found : Lead → Type 0 = λ l. l .found ≡ true in
-      let step : ℕ → Lead → Lead = λ f. faceTakenOf own (face own f) f in
+      let step : ℕ → Lead → Lead = λ f. faceTakenOf side (face f) f in
       let some : suc (s .faces - 1) ≡ s .faces = omega (arith, F .fit .f-low) in
-      let first : is-found (step 0 noneOf) = subst is-found (sym (first-best own)) (picked is-found own refl refl) in
-      subst (λ (k : ℕ). is-found (leadAfter step noneOf k)) some (found-after step first (λ i. taken-keeps own (face own i) i) (s .faces - 1))
+      let first : is-found (step 0 noneOf) = subst is-found (sym first-best) (new-found side (face 0) 0) in
+      subst (λ (k : ℕ). is-found (leadAfter step noneOf k)) some (found-after step first (λ i. taken-keeps side (face i) i) (s .faces - 1))

@@ -22,7 +22,7 @@ use Rattle.hull_links.specs.declared.HullSize.{HullSize}
 use Rattle.hull_links.specs.Links.{padded}
 use Rattle.hull.specs.Numbers.{vertexAt}
 use Rattle.axis_faces.specs.Support.{supportValueOf, groupOf, splatOf, leastLanes, supportOf}
-use Rattle.axis_faces.specs.Ready.{SupportReady}
+use Rattle.axis_faces.specs.inner.Ready.{SupportReady}
 use Rattle.axis_faces.proofs.Bounded.{value-below}
 
 -- x is finite, and carries a number below n

@@ -1,3 +1,3 @@
 pub mod Support
 pub mod Faces
-pub mod Ready
+pub mod inner

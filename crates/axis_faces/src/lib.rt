@@ -1,13 +1,12 @@
-// The face phase of separating_axis.rs: each face of one hull against the vertices of the other. One loop serves A's faces and B's: `own` says that
-// the axis is the face's normal as it stands, as for A's faces; else it is the normal as the turn makes it, as for B's.
+// The face phase of separating_axis.rs: each face of one hull against the vertices of the other. One loop serves A's faces and B's.
 pub mod support;
 
-ghost use mathlib.Core.Bool.{cond};
 ghost use mathlib.Core.Path.{_≡_};
 ghost use Prim.Native.Nat.{_<_};
 ghost use Rattle.hull_links.specs.Links.{padded};
-ghost use Rattle.axis_faces.specs.Faces.{biasOf, directionOf, exactOf, faceSeparationOf, faceOf, faceTakenOf, faceSearchWith, faceSearchOf};
-ghost use Rattle.axis_faces.specs.Ready.{Facing, FacesReady};
+ghost use Rattle.hull.specs.Numbers.{planeAt};
+ghost use Rattle.axis_faces.specs.Faces.{biasOf, directionOf, exactOf, faceAxisOf, faceSeparationOf, faceTakenOf, faceOf, faceSearchOf};
+ghost use Rattle.axis_faces.specs.inner.Ready.{Facing, FacesReady};
 use crate::support::get_support_wide;
 use axis_best::Lead;
 use hull_links::HullSize;
@@ -17,6 +16,12 @@ use vector::arithmetic::dot;
 use vector::arithmetic::neg;
 use vector::shape::aabb_center;
 use vector::shape::aabb_extents;
+
+// Whose faces are tried.
+pub enum Side {
+    A,
+    B,
+}
 
 // The axis of one face: its direction in A's frame, how far the other hull is above the face along it, and the support vertex.
 pub struct Face {
@@ -48,13 +53,14 @@ fn exact(d: Vec3, v: Vec3) -> f32
     d.x * v.x + d.y * v.y + d.z * v.z
 }
 
-fn axis(own: bool, normal: Vec3, d: Vec3) -> Vec3
-    ensures { λ r. ⌜ r ≡ cond own normal d ⌝ }
+// From A to B, in A's frame: for A's faces the normal as it stands, for B's the direction.
+fn axis(side: Side, normal: Vec3, d: Vec3) -> Vec3
+    ensures { λ r. ⌜ r ≡ faceAxisOf side normal d ⌝ }
 {
-    if own {
-        return normal;
+    match side {
+        Side::A => normal,
+        Side::B => d,
     }
-    d
 }
 
 fn separation(axis: Vec3, position: Vec3, offset: f32, support: f32) -> f32
@@ -65,7 +71,7 @@ fn separation(axis: Vec3, position: Vec3, offset: f32, support: f32) -> f32
 
 // Face f of the hull `numbers` against the vertices of the hull `others`.
 fn face_at(
-    own: bool,
+    side: Side,
     turn: [[f32; 3]; 3],
     position: Vec3,
     numbers: &[f32],
@@ -77,14 +83,14 @@ fn face_at(
     f: usize,
 ) -> Face
     requires { ⌜ FacesReady turn position size (now numbers) other (now others) center extents × (f < size .faces) ⌝ }
-    ensures { λ r. ⌜ (r ≡ faceOf own turn position size (now (numbers .entry)) other (now (others .entry)) center extents f) × (r .vertex < padded other) ⌝ }
+    ensures { λ r. ⌜ (r ≡ faceOf side turn position other (now (others .entry)) (planeAt size (now (numbers .entry)) f)) × (r .vertex < padded other) ⌝ }
 {
     let plane = hull::plane_at(numbers, size, f);
     let normal = plane.normal;
     let d = direction(turn, normal);
     let vertex = get_support_wide(bias(d, center, extents), d, others, other);
     let support = exact(d, hull::vertex_at(others, other, vertex));
-    let along = axis(own, normal, d);
+    let along = axis(side, normal, d);
     let apart = separation(along, position, plane.offset, support);
     Face {
         normal: along,
@@ -94,21 +100,21 @@ fn face_at(
 }
 
 // Face f takes the lead where it is strictly better. For A's faces the face is A's number and the vertex B's; for B's faces the other way round.
-fn taken(own: bool, face: Face, f: usize, lead: Lead) -> Lead
+fn taken(side: Side, face: Face, f: usize, lead: Lead) -> Lead
     requires { ⌜ (f < 128) × (face .vertex < 128) ⌝ }
-    ensures { λ r. ⌜ r ≡ faceTakenOf own face f lead ⌝ }
+    ensures { λ r. ⌜ r ≡ faceTakenOf side face f lead ⌝ }
 {
     let number = f as u8;
     let vertex = face.vertex as u8;
     let normal = face.normal;
-    if own {
-        return axis_best::better(normal, face.separation, number, vertex, lead);
+    match side {
+        Side::A => axis_best::better(normal, face.separation, number, vertex, lead),
+        Side::B => axis_best::better(normal, face.separation, vertex, number, lead),
     }
-    axis_best::better(normal, face.separation, vertex, number, lead)
 }
 
 fn search_with(
-    own: bool,
+    side: Side,
     turn: [[f32; 3]; 3],
     position: Vec3,
     numbers: &[f32],
@@ -119,14 +125,14 @@ fn search_with(
     extents: Vec3,
 ) -> Lead
     requires { ⌜ FacesReady turn position size (now numbers) other (now others) center extents ⌝ }
-    ensures { λ r. ⌜ r ≡ faceSearchWith own turn position size (now (numbers .entry)) other (now (others .entry)) center extents ⌝ }
+    ensures { λ r. ⌜ r ≡ faceSearchOf side turn position size (now (numbers .entry)) other (now (others .entry)) ⌝ }
 {
     let n = size.faces;
     let mut lead = axis_best::none();
     let mut f = 0;
     while f < n {
         let face = face_at(
-            own,
+            side,
             turn,
             position,
             numbers,
@@ -137,7 +143,7 @@ fn search_with(
             extents,
             f,
         );
-        lead = taken(own, face, f, lead);
+        lead = taken(side, face, f, lead);
         if lead.apart {
             return lead;
         }
@@ -148,7 +154,7 @@ fn search_with(
 
 // The faces of the hull `numbers` against the vertices of the hull `others`. `turn` carries a normal into the other hull's frame.
 pub fn search_faces(
-    own: bool,
+    side: Side,
     turn: [[f32; 3]; 3],
     position: Vec3,
     numbers: &[f32],
@@ -157,11 +163,11 @@ pub fn search_faces(
     other: HullSize,
 ) -> Lead
     requires { ⌜ Facing turn position size (now numbers) other (now others) ⌝ }
-    ensures { λ r. ⌜ r ≡ faceSearchOf own turn position size (now (numbers .entry)) other (now (others .entry)) ⌝ }
+    ensures { λ r. ⌜ r ≡ faceSearchOf side turn position size (now (numbers .entry)) other (now (others .entry)) ⌝ }
 {
     let space = hull::box_of(others, other);
     search_with(
-        own,
+        side,
         turn,
         position,
         numbers,

@@ -3,7 +3,7 @@ ghost use mathlib.Core.Path.{_≡_};
 ghost use Prim.Native.Nat.{_+_, _<_};
 ghost use Rattle.hull_links.specs.Links.{padded};
 ghost use Rattle.axis_faces.specs.Support.{supportValueOf, groupOf, splatOf, supportOf};
-ghost use Rattle.axis_faces.specs.Ready.{SupportReady};
+ghost use Rattle.axis_faces.specs.inner.Ready.{SupportReady};
 use hull_links::HullSize;
 use lanes::FloatW;
 use manifold::limits::HUGE;

@@ -8,7 +8,7 @@ use borrow.Author.Count.{below-more}
 use lib.Seq.{getD-set-same, getD-set-other}
 use lib.ListN.{length, getD, set, length-set}
 use lib.Ieee.{Float, nan}
-use Rattle.axis_lists.specs.Fills.{Filled, normalAt}
+use Rattle.axis_lists.specs.inner.Fills.{Filled, normalAt}
 
 pub begins : (g : ℕ → Float) (at : ℕ) (xs : List Float) → Filled g at 0 xs xs
 begins g at xs = record { long = refl; kept = λ k h. refl; made = λ k h. absurd (not-suc-le-zero h) }

@@ -10,8 +10,8 @@ use Rattle.hull_links.specs.declared.HullSize.{HullSize}
 use Rattle.hull_links.specs.Links.{padded}
 use Rattle.hull.specs.Numbers.{vertexAt}
 use Rattle.axis_edges.specs.Edges.{dotRight, differenceOf, edgeOfA}
-use Rattle.axis_lists.specs.Lists.{vectorIn, Three, Row}
-use Rattle.axis_lists.specs.Fills.{Filled, dotAt, differenceAt}
+use Rattle.axis_lists.specs.inner.Lists.{vectorIn, Three, Row}
+use Rattle.axis_lists.specs.inner.Fills.{Filled, dotAt, differenceAt}
 
 same-vector : {x y z : Float} {v : Vec3} → x ≡ v .x → y ≡ v .y → z ≡ v .z → _≡_ {A = Vec3} (record { x = x; y = y; z = z }) v
 same-vector p q r = rw (p, q, r)

@@ -11,10 +11,10 @@ use Rattle.vector.specs.declared.Vec3.{Vec3}
 use Rattle.hull_links.specs.declared.HullSize.{HullSize}
 use Rattle.hull_links.specs.Links.{face}
 use Rattle.axis_edges.specs.declared.EdgeB.{EdgeB}
-use Rattle.axis_lists.specs.Lists.{vectorIn, Three, Row}
-use Rattle.axis_lists.specs.Fills.{Filled, dotAt}
+use Rattle.axis_lists.specs.inner.Lists.{vectorIn, Three, Row}
+use Rattle.axis_lists.specs.inner.Fills.{Filled, dotAt}
 use Rattle.axis_lists.proofs.Lists.{row-made, row-kept, row-same}
-use Rattle.axis_pairs.specs.Pairs.{edgeIn, Table}
+use Rattle.axis_pairs.specs.inner.Pairs.{edgeIn, Table}
 
 -- row f ends before row k begins
 rows-apart : (f k n : ℕ) → f < k → f * n + n ≤ k * n

@@ -17,9 +17,9 @@ use Rattle.axis_edges.specs.declared.EdgeA.{EdgeA}
 use Rattle.axis_edges.specs.declared.EdgeB.{EdgeB}
 use Rattle.axis_edges.specs.Edges.{differenceOf, turnedNormal, turnedPoint, edgeOfB, rowPairs}
 use Rattle.axis_pairs.specs.All.{allPairs}
-use Rattle.axis_edges.specs.Ready.{EdgesIn}
-use Rattle.axis_lists.specs.Lists.{Three}
-use Rattle.axis_pairs.specs.Pairs.{edgeIn, ScanReady}
+use Rattle.axis_edges.specs.inner.Ready.{EdgesIn}
+use Rattle.axis_lists.specs.inner.Lists.{Three}
+use Rattle.axis_pairs.specs.inner.Pairs.{edgeIn, ScanReady}
 
 abbrev made : Vec3 → Vec3 → Vec3 → Vec3 → EdgeB
 made c d from to = record { normal0 = c; normal1 = d; direction = differenceOf to from; vertex = from }

@@ -1,2 +1,2 @@
 pub mod All
-pub mod Pairs
+pub mod inner

@@ -10,7 +10,7 @@ use borrow.Author.Count.{below-more}
 use lib.Dec.{eqb}
 use lib.ListN.{length, set, getD, length-set, length-append}
 use lib.Seq.{getD-set-same, getD-set-other}
-use Rattle.axis_row.specs.Marks.{passing, upTo, Marked, unmarked}
+use Rattle.axis_row.specs.inner.Marks.{passing, upTo, Marked, unmarked}
 use Rattle.axis_row.proofs.Passing.{passing-snoc}
 
 bit : (z : Bool) → cond z 0 1 ≤ 1

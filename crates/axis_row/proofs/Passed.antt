@@ -10,7 +10,7 @@ use lib.Seq.{length-take-le, getD-take, getD-append-seam}
 use Rattle.axis_best.specs.declared.Lead.{Lead}
 use Rattle.axis_best.specs.Leads.{leadAfter}
 use Rattle.axis_best.proofs.Searches.{same-steps}
-use Rattle.axis_row.specs.Marks.{passing, upTo}
+use Rattle.axis_row.specs.inner.Marks.{passing, upTo}
 use Rattle.axis_row.proofs.Passing.{passing-snoc}
 
 same-cond : {A : Type 0} (z : Bool) (a : A) → cond z a a ≡ a

@@ -7,7 +7,7 @@ use native.Mathlib.Omega.{arith}
 use native.Mathlib.Nat.{le-of-suc-le-suc}
 use lib.ListN.{length, take, getD}
 use lib.Seq.{length-take-le, getD-take}
-use Rattle.axis_row.specs.Marks.{passing, upTo}
+use Rattle.axis_row.specs.inner.Marks.{passing, upTo}
 
 -- every number of a list lies below n
 abbrev pub Below : ℕ → List ℕ → Type 0

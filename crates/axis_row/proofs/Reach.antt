@@ -5,7 +5,7 @@ use mathlib.Core.List.{List}
 use native.Mathlib.Omega.{arith}
 use Rattle.hull_links.specs.declared.HullSize.{HullSize}
 use Rattle.hull_links.specs.Links.{origin, face}
-use Rattle.axis_edges.specs.Ready.{EdgesIn}
+use Rattle.axis_edges.specs.inner.Ready.{EdgesIn}
 use Rattle.axis_edges.proofs.Ready.{origin-below, face-below}
 
 module _ (s : HullSize) (l : List ℕ) (ok : EdgesIn s l) (e : ℕ) (h : e < s .«half_edges») (r : ℕ) where

@@ -16,13 +16,13 @@ use Rattle.hull.specs.Numbers.{planeAt}
 use Rattle.axis_edges.specs.declared.EdgeA.{EdgeA}
 use Rattle.axis_edges.specs.declared.EdgeB.{EdgeB}
 use Rattle.axis_edges.specs.Edges.{dotRight, edgeOfA, passesOf, triedOf, edgePairOf, rowPairs}
-use Rattle.axis_lists.specs.Lists.{Three, Row}
-use Rattle.axis_lists.specs.Fills.{Filled, dotAt}
+use Rattle.axis_lists.specs.inner.Lists.{Three, Row}
+use Rattle.axis_lists.specs.inner.Fills.{Filled, dotAt}
 use Rattle.axis_lists.proofs.Lists.{row-made, row-same}
-use Rattle.axis_row.specs.Marks.{atLeastEps, failsFirst, passing, upTo}
-use Rattle.axis_row.specs.Sift.{failsLater}
+use Rattle.axis_row.specs.inner.Marks.{atLeastEps, failsFirst, passing, upTo}
+use Rattle.axis_row.specs.inner.Sift.{failsLater}
 use Rattle.axis_row.proofs.Passing.{Below, below-up, below-passing, front-below}
-use Rattle.axis_row.specs.Rows.{triedAt, RowReady}
+use Rattle.axis_row.specs.inner.Rows.{triedAt, RowReady}
 use Rattle.axis_row.proofs.Products.{dot-turns}
 use Rattle.axis_row.proofs.Passed.{none-pass, some-pass}
 

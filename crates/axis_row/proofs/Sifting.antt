@@ -8,7 +8,7 @@ use native.Mathlib.Nat.{le-refl, le-antisymm}
 use native.Mathlib.Numerals.{add-one}
 use lib.ListN.{length, take, set, getD, length-set}
 use lib.Seq.{take-suc, take-set-le, take-suc-set}
-use Rattle.axis_row.specs.Marks.{passing, upTo}
+use Rattle.axis_row.specs.inner.Marks.{passing, upTo}
 use Rattle.axis_row.proofs.Passing.{passing-snoc}
 
 -- of i numbers, xs, m have passed: they stand at the front of l

@@ -1,3 +1,1 @@
-pub mod Marks
-pub mod Sift
-pub mod Rows
+pub mod inner

@@ -8,16 +8,18 @@ use native.Mathlib.Nat.{le-of-mul-le-mul-right, mul-pos, div-one, mod-one, div-l
 use native.Mathlib.Omega.{arith}
 use mathlib.Core.Logic.{_⊎_, inl, inr, ⊎-elim}
 use mathlib.Core.Bool.{Bool, true, false, not, _&&_, _||_, Bool·beq, cond}
-use lib.Dec.{T, leb, ltb, eqb, leb→le, le→leb, ltb→lt, eqb→eq}
+use lib.Dec.{T, leb, ltb, eqb, leb→le, le→leb, ltb→lt, eqb→eq, lit<}
+use lib.IntN.{pos}
 use lib.Pow.{pow-add, pow-pos, pow-mono, pow-lt}
 use lib.Ieee.{Float, nan, inf, fin, Format, binary32, prec, emax, low, up, down, unlike, size, nearest, round, neg, sum, add, sub, mul, below, level}
-use lib.Ieee.{le, isNan, ofBits}
+use lib.Ieee.{le, lt, isNan, ofBits}
 use lib.Ieee.Digits.{size-le, back}
 use lib.Ieee.Fits.{round-is, two, two-le-pos, down-pos, and-l}
 use lib.Ieee.Exact.{HasValue, units-val}
 use lib.Ieee.Nearest.{closest, closest-mono}
 use lib.Ieee.Order.{drop, kept}
 use lib.Ieee.Scale.{grid, overflow, finite}
+use borrow.Author.Tests.{lt-ltb}
 use Rattle.bounds.specs.Bound.{within, Below}
 
 -- ---- rounding does not pass a power of two
@@ -73,6 +75,11 @@ round-within f s a c k E C h =
 pub picked : {A : Type 0} (P : A → Type 0) (b : Bool) {x y : A} → P x → P y → P (cond b x y)
 picked P true p q = p
 picked P false p q = q
+
+-- where the first may lean on the test
+pub picked-if : {A : Type 0} (P : A → Type 0) (b : Bool) {x y : A} → (T b → P x) → P y → P (cond b x y)
+picked-if P true p q = p tt
+picked-if P false p q = q
 
 -- ---- the operations on `within`
 sum-within : (f : Format) (s : Bool) (a : ℕ) (t : Bool) (b c k : ℕ) → suc k ≤ emax f → 0 < c → a ≤ 2 ^ k * c → b ≤ 2 ^ k * c
@@ -158,6 +165,11 @@ pub subtracted : {j k : ℕ} {x y : Float} → T (leb (suc (max j k)) 127) → B
 unfolding sub
 subtracted t p q = added t p (negated q)
 
+-- at one bound for both
+pub deducted : {k : ℕ} {x y : Float} → T (leb (suc k) 127) → Below k x → Below k y → Below (suc k) (sub binary32 x y)
+unfolding sub
+deducted t p q = summed t p (negated q)
+
 or-split : (a b : Bool) → T (a || b) → T a ⊎ T b
 or-split true b t = inl tt
 or-split false b t = inr t
@@ -208,8 +220,28 @@ no-nan nan p = absurd p
 no-nan (inf s) p = absurd p
 no-nan (fin s m e) p = tt
 
+-- what is at most 2 ^ 127 is below the largest float, whose bits are 0x7f7f_ffff
+under-largest : (x : Float) → T (within 127 x) → lt x (fin false 16777215 (pos 104)) ≡ true
+unfolding lt
+under-largest nan p = absurd p
+under-largest (inf s) p = absurd p
+under-largest (fin true m e) p =
+    lt-ltb 0 (m * up e * 1 + 16777215 * 2 ^ 104 * down e) (any (m * up e * 1) (16777215 * 2 ^ 104 * down e) (mul-pos (lit< tt) (down-pos e)))
+  where
+    any : (a b : ℕ) → 0 < b → 0 < a + b
+    any a b h = omega arith
+under-largest (fin false m e) p =
+    lt-ltb (m * up e * 1) (16777215 * 2 ^ 104 * down e) (room (m * up e) (down e) (down-pos e) (leb→le (m * up e) (2 ^ 127 * down e) p))
+  where
+    room : (a d : ℕ) → 0 < d → a ≤ 2 ^ 127 * d → a * 1 < 16777215 * 2 ^ 104 * d
+    room a d D h = lt-of-le-of-lt (le-trans (le-of-eq (mul-one a)) h) (mul-lt-mul-of-pos-right (lit< tt) D)
+
+pub below-largest : {x : Float} → Below 127 x → lt x (ofBits binary32 0x7f7f_ffff) ≡ true
+unfolding ofBits
+below-largest {x} p = under-largest x (p .holds)
+
 -- ---- a sum of three products, in the two orders that occur
-less : (k b : ℕ) → T (leb (suc k) b) → T (leb k b)
+pub less : (k b : ℕ) → T (leb (suc k) b) → T (leb k b)
 less k b t = le→leb k b (le-of-lt (leb→le (suc k) b t))
 
 one-more : (k : ℕ) → T (leb k (suc k))

@@ -1,4 +1,5 @@
 pub mod Laws
 pub mod Squares
+pub mod Quotients
 pub mod Bits
 pub mod LowBits

@@ -1,1 +1,2 @@
 pub mod Fans
+pub mod Below

@@ -30,7 +30,7 @@ use Rattle.hull.specs.Rule8.{finiteAt, smallAt, vertexInBox, planeRightAt, edge
 use Rattle.hull.specs.Numbers.{boxOf, vertexAt, planeAt, supportAt}
 use Rattle.axis_best.specs.Leads.{stopsOf, betterOf, leadAfter}
 use Rattle.axis_faces.specs.Support.{supportValueOf, groupOf, splatOf, leastLanes, supportOf}
-use Rattle.axis_faces.specs.Faces.{biasOf, directionOf, exactOf, faceSeparationOf, farthestVertexOf, faceOf, faceTakenOf, faceSearchWith, faceSearchOf}
+use Rattle.axis_faces.specs.Faces.{biasOf, directionOf, exactOf, faceAxisOf, faceSeparationOf, farthestVertexOf, faceTakenOf, faceOf, faceSearchOf}
 use Rattle.axis_edges.specs.Edges.{dotRight, differenceOf, sumOf, edgeOfA, turnedNormal, turnedPoint, edgeOfB, passesOf, parallelOf, betweenOf}
 use Rattle.axis_edges.specs.Edges.{axisAcrossOf, edgeSeparationOf}
 use Rattle.axis_edges.specs.Edges.{triedOf, edgePairOf, rowPairs}
@@ -205,7 +205,7 @@ unfolding isqrt pattern rootOf patternOf embedOf indexOf absOf minOf maxOf addOf
     firstBroken has firsts until ring h1 vertexInRange edgeInRange faceInRange h2 twinsAt h3 linkedAt h4 newNext h5 ringHolds ringRight h6 fanHolds
     fanRight h7 inside small moderate nearOne apart inBox planeRight endsApart transformRight finiteAt smallAt vertexInBox planeRightAt edgeLong h8
     brokenRule boxOf vertexAt planeAt supportAt stopsOf betterOf leadAfter supportValueOf groupOf splatOf leastLanes supportOf biasOf directionOf exactOf
-    faceSeparationOf farthestVertexOf faceOf faceTakenOf faceSearchWith faceSearchOf dotRight differenceOf sumOf edgeOfA turnedNormal turnedPoint edgeOfB
+    faceAxisOf faceSeparationOf farthestVertexOf faceTakenOf faceOf faceSearchOf dotRight differenceOf sumOf edgeOfA turnedNormal turnedPoint edgeOfB
     passesOf parallelOf betweenOf axisAcrossOf edgeSeparationOf triedOf edgePairOf rowPairs allPairs axisOf apartOf edgeOf foundOf
     searchAnswerOf sideOfA sideOfB pairsOf searchOf cacheOf putOutOf cutFrom lastOf cutOf projectionOf flatterOf flattestFrom flattestOf
     lowerFaceOf incidentFaceOf taggedOf cornerOf builtOf sidePlaneOf cutOn goesOn cutRound candidatesOf leastSeparationOf touchingOf onFace faceAOf faceBOf

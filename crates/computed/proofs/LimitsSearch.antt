@@ -18,8 +18,8 @@ use Rattle.axis_best.specs.declared.Lead.{Lead}
 use Rattle.axis_best.specs.Leads.{noneOf, stopsOf, betterOf, leadAfter}
 use Rattle.axis_faces.specs.Support.{supportValueOf, groupOf, splatOf, leastLanes, supportOf}
 use Rattle.axis_edges.specs.Edges.{eps, dotRight, passesOf, parallelOf}
-use Rattle.axis_row.specs.Marks.{atLeastEps, failsFirst}
-use Rattle.axis_row.specs.Sift.{failsLater}
+use Rattle.axis_row.specs.inner.Marks.{atLeastEps, failsFirst}
+use Rattle.axis_row.specs.inner.Sift.{failsLater}
 use Rattle.axis.specs.declared.Apart.{Apart}
 use Rattle.axis.specs.declared.Found.{Found}
 use Rattle.axis.specs.declared.Search.{Search}

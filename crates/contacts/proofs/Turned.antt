@@ -23,7 +23,7 @@ use Rattle.clip.specs.Candidates.{candidatesOf}
 use Rattle.collide_outcome.specs.declared.Built.{Built}
 use Rattle.collide_outcome.specs.Builds.{touchedOf, missed, refusedAt}
 use Rattle.contacts.specs.Faces.{pointsFrom, carriedOf, contactOnA, contactOnB, onFace, faceAOf, faceBOf}
-use Rattle.contacts.specs.Carried.{carriedPoint, carriedPlace, carriedContact}
+use Rattle.contacts.specs.inner.Carried.{carriedPoint, carriedPlace, carriedContact}
 
 -- ---- four points or fewer, carried
 carried-few : (x : Transform) (normal : Vec3) (l : List ClipVertex) → length l ≤ 4

@@ -1,3 +1,3 @@
 pub mod Faces
 pub mod EdgePairs
-pub mod Carried
+pub mod inner

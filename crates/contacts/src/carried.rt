@@ -1,6 +1,6 @@
-// A contact carried from B's frame into A's. What it comes to is in specs/Carried.antt.
+// A contact carried from B's frame into A's. What it comes to is in specs/inner/Carried.antt.
 ghost use mathlib.Core.Path.{_≡_};
-ghost use Rattle.contacts.specs.Carried.{carriedPoint, carriedPlace, carriedContact};
+ghost use Rattle.contacts.specs.inner.Carried.{carriedPoint, carriedPlace, carriedContact};
 use manifold::Contact;
 use manifold::Point;
 use manifold::pairs::flip_pair;

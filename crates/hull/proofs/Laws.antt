@@ -21,7 +21,7 @@ use Rattle.vector.specs.Bounded.{VecBelow}
 use Rattle.hull.specs.Numbers.{numberAt, boxOf, vertexAt, planeAt}
 use Rattle.hull_limits.specs.Measures.{inside, inBox, planeRight}
 use Rattle.hull.specs.Rule8.{finiteAt, smallAt, vertexInBox, planeRightAt, edgeLong, h8}
-use Rattle.hull.specs.Passes.{smallFrom, paddingSmall}
+use Rattle.hull.specs.inner.Passes.{smallFrom, paddingSmall}
 use Rattle.hull_limits.proofs.Limits.{inside-below, small-below, moderate-below, below-small, normal-below, finite-is}
 
 -- ---- by H2 the origin of a half-edge is in the lists of vertices

@@ -1,4 +1,4 @@
 pub mod Numbers
 pub mod Rule8
-pub mod Passes
 pub mod Accepted
+pub mod inner

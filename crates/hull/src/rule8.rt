@@ -8,7 +8,7 @@ ghost use Rattle.hull_links.specs.Tests.{all};
 ghost use Rattle.hull_links.specs.Links.{LinksFit, NumbersFit};
 ghost use Rattle.hull_links.specs.Rules.{h2};
 ghost use Rattle.hull.specs.Rule8.{vertexInBox, planeRightAt, edgeLong, h8};
-ghost use Rattle.hull.specs.Passes.{smallFrom, paddingSmall};
+ghost use Rattle.hull.specs.inner.Passes.{smallFrom, paddingSmall};
 use crate::box_of;
 use crate::plane_at;
 use crate::vertex_at;

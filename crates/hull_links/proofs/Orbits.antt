@@ -11,7 +11,7 @@ use lib.Dec.{eqb, ltb}
 use lib.ListN.{length}
 use borrow.Author.Tests.{eqb-true, eqb-false, eq-eqb, ne-eqb, ltb-true, ltb-false}
 use Rattle.hull_links.specs.Walks.{count, has, until, ring, steps, Closes}
-use Rattle.hull_links.specs.Tours.{Walk}
+use Rattle.hull_links.specs.inner.Tours.{Walk}
 use Rattle.hull_links.proofs.Tests.{cases}
 use Rattle.hull_links.proofs.Counting.{at-most, unhad}
 

@@ -8,7 +8,7 @@ use native.Mathlib.Omega.{arith}
 use lib.ListN.{length}
 use Rattle.hull_links.specs.declared.HullSize.{HullSize}
 use Rattle.hull_links.specs.Walks.{has, ring, joined, Once, Closes}
-use Rattle.hull_links.specs.Tours.{Walk, Walked}
+use Rattle.hull_links.specs.inner.Tours.{Walk, Walked}
 use Rattle.hull_links.specs.Links.{next, origin, face, vertexEdge, faceEdge, turn, roundFaces, roundCorners}
 use Rattle.hull_links.specs.Rules.{h6, h7, Linked}
 use Rattle.hull_links.specs.Rounds.{Rounds}

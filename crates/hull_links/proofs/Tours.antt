@@ -11,7 +11,7 @@ use lib.ListN.{length, length-append}
 use borrow.Author.Count.{below-more}
 use borrow.Author.Tests.{eqb-true, eqb-false}
 use Rattle.hull_links.specs.Walks.{bit, count, has, joined, ring, steps, Once}
-use Rattle.hull_links.specs.Tours.{Walk, Walked, Toured}
+use Rattle.hull_links.specs.inner.Tours.{Walk, Walked, Toured}
 use Rattle.hull_links.proofs.Tests.{cases}
 use Rattle.hull_links.proofs.Counting.{sum-same, sum-mono, sum-bit, sum-hit, sum-less, sum-one, count-joined, has-count, unhad, length-sum}
 use Rattle.hull_links.proofs.Counting.{has-joined, joined-part}

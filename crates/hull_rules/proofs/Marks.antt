@@ -15,7 +15,7 @@ use Rattle.hull_links.specs.Links.{next, LinksFit}
 use Rattle.hull_links.specs.Rules.{h2, newNext}
 use Rattle.hull_links.proofs.Tests.{cases}
 use Rattle.hull_links.proofs.Facts.{next-lt}
-use Rattle.hull_rules.specs.Marks.{marked, clear}
+use Rattle.hull_rules.specs.inner.Marks.{marked, clear}
 
 marked-append : (a b m : List ℕ) → marked (a ++ b) m ≡ marked b (marked a m)
 unfolding marked

@@ -9,8 +9,8 @@ use Rattle.hull_links.specs.Tests.{all, firstBroken}
 use Rattle.hull_links.specs.Links.{LinksFit}
 use Rattle.hull_links.specs.Rules.{vertexInRange, faceInRange, h2, h3, h4, h5, h6, h7, brokenLinks, Linked}
 use Rattle.hull_links.proofs.Tests.{cases, all-same, passes, breaks, unbroken, broken-early, broken-late}
-use Rattle.hull_tours.specs.Found.{Ringed, Fanned}
-use Rattle.hull_rules.specs.Named.{storedInRange, brokenBeforeWalks}
+use Rattle.hull_tours.specs.inner.Found.{Ringed, Fanned}
+use Rattle.hull_rules.specs.inner.Named.{storedInRange, brokenBeforeWalks}
 use Rattle.hull_tours.proofs.Accept.{ringed, fanned, rule-6}
 
 module _ (s : HullSize) (l : List ℕ) where

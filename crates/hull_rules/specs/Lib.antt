@@ -1,2 +1,1 @@
-pub mod Marks
-pub mod Named
+pub mod inner

@@ -6,8 +6,8 @@ ghost use lib.ListN.{length};
 ghost use Rattle.hull_links.specs.Tests.{all};
 ghost use Rattle.hull_links.specs.Links.{LinksFit};
 ghost use Rattle.hull_links.specs.Rules.{edgeInRange, twinsAt, linkedAt, h2, h3, h4, h5};
-ghost use Rattle.hull_rules.specs.Marks.{clear};
-ghost use Rattle.hull_rules.specs.Named.{storedInRange, brokenBeforeWalks};
+ghost use Rattle.hull_rules.specs.inner.Marks.{clear};
+ghost use Rattle.hull_rules.specs.inner.Named.{storedInRange, brokenBeforeWalks};
 use hull_links::HullSize;
 
 // The n stored edges from `from` on are below h.

@@ -19,7 +19,7 @@ use Rattle.hull_links.proofs.Orbits.{Going, comes-back, same-way}
 use Rattle.hull_links.proofs.Tours.{start-has, home, at-home, keeps, from}
 use Rattle.hull_links.proofs.Facts.{edge-fit, next-lt, twin-of-twin, twin-even, twin-odd}
 use Rattle.hull_links.proofs.Rounds.{rings-walked, faces-once, fans-walked, corners-once}
-use Rattle.hull_tours.specs.Found.{OnFace, OnVertex, Ringed, Fanned}
+use Rattle.hull_tours.specs.inner.Found.{OnFace, OnVertex, Ringed, Fanned}
 
 -- ---- the other of a pair of half-edges
 mate-even : (k : ℕ) → bitXor (2 * k) 1 ≡ 2 * k + 1

@@ -7,10 +7,10 @@ use lib.Bits.{bitXor}
 use lib.ListN.{length}
 use Rattle.hull_links.specs.declared.HullSize.{HullSize}
 use Rattle.hull_links.specs.Walks.{ring, steps}
-use Rattle.hull_links.specs.Tours.{Walk, Toured}
+use Rattle.hull_links.specs.inner.Tours.{Walk, Toured}
 use Rattle.hull_links.specs.Links.{next, twin, origin, face}
 use Rattle.hull_links.proofs.Orbits.{Going, one-length}
-use Rattle.hull_tours.specs.Found.{Length, OnFace, OnVertex}
+use Rattle.hull_tours.specs.inner.Found.{Length, OnFace, OnVertex}
 
 module _ (step : ℕ → ℕ) (P : ℕ → Type 0) (s fuel : ℕ) where
   pub is-length : (n : ℕ) → n ≤ fuel → Walk step P s n → Length step P s fuel n

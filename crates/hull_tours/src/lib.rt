@@ -5,7 +5,7 @@ ghost use mathlib.Core.Bool.{true};
 ghost use mathlib.Core.Path.{_≡_};
 ghost use Prim.Native.Nat.{_-_, _<_, _≤_};
 ghost use Rattle.hull_links.specs.Links.{next, turn, LinksFit};
-ghost use Rattle.hull_tours.specs.Found.{Length, OnFace, OnVertex, Ringed, Fanned};
+ghost use Rattle.hull_tours.specs.inner.Found.{Length, OnFace, OnVertex, Ringed, Fanned};
 use hull_links::HullSize;
 
 // How many half-edges the ring of face f has from `start` on: 0 where it is not back within `fuel` steps, leaves the face or leads out of range.

@@ -1,31 +1,34 @@
--- Every contact that a call can build holds points drawn from the images of candidates (specs/Sources.antt), whatever the awaited helpers answer.
--- Assumes nothing.
+-- The contact of every call is the one that is drawn from its source (specs/Sources.antt), whatever the awaited helpers answer. Assumes nothing.
 use Prim.Native.Nat.{ℕ, zero, suc, _<_}
+use mathlib.Core.Bool.{Bool, true, false, cond, false≢true}
 use mathlib.Core.List.{List, [], _∷_, map}
-use mathlib.Core.Path.{_≡_, refl, sym, ap, ap₂, _∙_}
+use mathlib.Core.Path.{_≡_, refl, sym, ap, ap₂, subst, _∙_}
 use native.Mathlib.Omega.{arith}
 use lib.ListN.{length, getD, length-map}
 use lib.Dec.{eqb, ltb}
 use lib.IntN.{ℤ, pos}
 use lib.Signed.{ltZ}
 use lib.Ieee as Ieee
-use lib.Ieee.{Float}
-use Rattle.bounds.proofs.Laws.{picked}
+use lib.Ieee.{Float, binary32, toBits}
+use borrow.Author.Tests.{eqb-true, eqb-false}
 use Rattle.vector.specs.declared.Vec3.{Vec3}
 use Rattle.vector.specs.declared.Transform.{Transform}
-use Rattle.vector.specs.Arithmetic.{zeroVec, negOf, subOf, dotOf}
-use Rattle.vector.specs.Awaited.{arbitraryPerpOf, isWithinSegmentsOf}
+use Rattle.vector.specs.Rounded.{_⊖_, float}
+use Rattle.vector.specs.Scalar.{absOf}
+use Rattle.vector.specs.Arithmetic.{negOf, subOf, dotOf}
+use Rattle.vector.specs.Awaited.{arbitraryPerpOf}
 use Rattle.rotation.specs.Rotation.{matrixOf, mulMvOf, invertOf}
 use Rattle.manifold.specs.declared.ClipVertex.{ClipVertex}
 use Rattle.manifold.specs.declared.SatCache.{SatCache}
 use Rattle.manifold.specs.declared.Contact.{Contact}
 use Rattle.manifold.specs.declared.Answer.{Answer}
-use Rattle.manifold.specs.Limits.{speculative}
+use Rattle.manifold.specs.Limits.{slop, speculative}
 use Rattle.manifold.specs.Records.{emptyContact, pastVertex}
 use Rattle.hull_links.specs.declared.HullSize.{HullSize}
+use Rattle.hull_links.proofs.Tests.{cases}
 use Rattle.hull.specs.Numbers.{planeAt}
 use Rattle.clip.specs.Candidates.{candidatesOf}
-use Rattle.reduce_scores.specs.Images.{imageOf, leastSeparationOf, touchingOf}
+use Rattle.reduce_scores.specs.Images.{imageOf}
 use Rattle.reduce_points.specs.Points.{normalOf, contactOf}
 use Rattle.reduce.specs.Reduce.{pointsOf, placesOf, numbered}
 use Rattle.reduce.specs.Chosen.{Chosen}
@@ -33,31 +36,40 @@ use Rattle.reduce.proofs.Chosen.{chosen}
 use Rattle.axis.specs.declared.Axis.{Axis}
 use Rattle.axis.specs.declared.EdgeAxis.{EdgeAxis}
 use Rattle.axis.specs.declared.Search.{Search}
+use Rattle.axis.specs.Search.{searchOf}
 use Rattle.collide_outcome.specs.declared.Built.{Built}
-use Rattle.collide_outcome.specs.Builds.{touchedOf}
+use Rattle.collide_outcome.specs.declared.Cached.{Cached}
+use Rattle.collide_outcome.specs.Builds.{touchedOf, missed, refusedAt}
+use Rattle.collide_outcome.specs.Served.{nearOf, servedOf, hitWith, noHit}
+use Rattle.collide_outcome.specs.Answers.{answerOf}
 use Rattle.contacts.specs.Faces.{pointsFrom, carriedOf, contactOnA, contactOnB, onFace, faceAOf, faceBOf}
 use Rattle.contacts.specs.EdgePairs.{edgePoint, nearestOf, alongOf, edgeContactOf}
-use Rattle.collide_outcome.specs.declared.Cached.{Cached}
 use Rattle.collide_cached.specs.Ridges.{ridgeOf, carriedRidge, crossesOf, axisBetween}
-use Rattle.collide_outcome.specs.Served.{nearOf, servedOf}
-use Rattle.collide_cached.specs.Again.{separationFromA, separationFromB, cachedFaceAOf, cachedFaceBOf, cachedEdgeOf}
+use Rattle.collide_cached.specs.Again.{deepestBelowA, separationFromA, cachedFaceAOf, deepestBelowB, separationFromB, cachedFaceBOf, cachedEdgeOf}
 use Rattle.collide_full.specs.Full.{triesEdge, pairContact, contactA, contactB, winnerContact, insteadOf, withEdge, foundContact, apartBuilt}
 use Rattle.collide_full.specs.Full.{afterSearch, fullOf}
 use Rattle.collide_refusals.specs.Refusals.{refusalOf}
-use Rattle.collide_outcome.specs.Answers.{answerOf}
 use Rattle.collide.specs.Call.{afterCached, workedOf, collideOf}
-use Rattle.promises.specs.Sources.{on-face-a, on-face-b, of-edges, of-none, Drawn}
+use Rattle.contactlib.proofs.Keeps.{keeps-call}
+use Rattle.promises.specs.Numbers.{numberOf}
+use Rattle.promises.specs.Sources.{Reason, Source, small-capacity, refused, apart, not-touching, face-a, face-b, edges, none, placesOn}
+use Rattle.promises.specs.Sources.{candidatesFrom, imageFrom, imagesFrom, placesFrom, pointsTaken, normalFrom, contactFrom, touches, ifTouching}
+use Rattle.promises.specs.Sources.{separationFrom}
+use Rattle.promises.specs.OneCall.{winnerOf, triedOver, orPair, searchSource, fullSource, serves, cachedSource, cachedEdges, workSource, sourceOf}
+use Rattle.promises.proofs.Choices.{choice}
+use Rattle.promises.proofs.Statuses.{call-status}
 
 -- ---- images that are carried are chosen as before
-getD-map : (g : ClipVertex → ClipVertex) (vs : List ClipVertex) (j : ℕ) → j < length vs → g (getD vs j pastVertex) ≡ getD (map g vs) j pastVertex
-getD-map g [] j h = absurd (omega (arith, h))
-getD-map g (v ∷ vs) zero h = refl
-getD-map g (v ∷ vs) (suc j) h = getD-map g vs j (omega (arith, h))
+pub getD-map : {A B : Type 0} (g : A → B) (d : A) (d′ : B) (vs : List A) (j : ℕ) → j < length vs → g (getD vs j d) ≡ getD (map g vs) j d′
+getD-map g d d′ [] j h = absurd (omega (arith, h))
+getD-map g d d′ (v ∷ vs) zero h = refl
+getD-map g d d′ (v ∷ vs) (suc j) h = getD-map g d d′ vs j (omega (arith, h))
 
 at-places : (g : ClipVertex → ClipVertex) (vs : List ClipVertex) (js : List ℕ) → ((i : ℕ) → i < length js → getD js i 0 < length vs)
     → map g (map (λ (j : ℕ). getD vs j pastVertex) js) ≡ map (λ (j : ℕ). getD (map g vs) j pastVertex) js
 at-places g vs [] h = refl
-at-places g vs (j ∷ js) h = ap₂ _∷_ (getD-map g vs j (h 0 (omega arith))) (at-places g vs js (λ i q. h (suc i) (omega (arith, q))))
+at-places g vs (j ∷ js) h =
+    ap₂ _∷_ (getD-map g pastVertex pastVertex vs j (h 0 (omega arith))) (at-places g vs js (λ i q. h (suc i) (omega (arith, q))))
 
 carried-chosen : (g : ClipVertex → ClipVertex) (images points : List ClipVertex) (places : List ℕ) → Chosen images points places
     → Chosen (map g images) (map g points) places
@@ -72,6 +84,10 @@ carried-chosen g images points places c =
       all = λ h. ap (map g) (c .all (rw (sym long) h));
       order = λ h. rw long (c .order (rw (sym long) h));
     }
+
+map-twice : (g h : ClipVertex → ClipVertex) (vs : List ClipVertex) → map g (map h vs) ≡ map (λ v. g (h v)) vs
+map-twice g h [] = refl
+map-twice g h (v ∷ vs) = ap (λ l. g (h v) ∷ l) (map-twice g h vs)
 
 -- one point of one image
 one-chosen : (v : ClipVertex) → Chosen (v ∷ []) (v ∷ []) (0 ∷ [])
@@ -102,162 +118,250 @@ none-chosen = record {
 }
 
 module _ (s : HullSize) (n : List Float) (l : List ℕ) (t : HullSize) (m : List Float) (k : List ℕ) (x : Transform) where
-  abbrev Draws : Contact → Type 0
-  Draws = Drawn s n l t m k x
+  abbrev From : Source → Contact
+  From = contactFrom s n l t m k x
 
-  -- ---- each contact
-  draws-none : Draws emptyContact
-  unfolding contactOf normalOf
-  draws-none = record { normal = zeroVec; images = []; points = []; places = []; source = of-none; holds = refl; chosen = none-chosen }
+  abbrev Touch : Source → Bool
+  Touch = touches s n l t m k x
 
-  draws-a : (f v : ℕ) → Draws (contactOnA (planeAt s n f .normal) (candidatesOf s n l t m k x f v))
-  unfolding contactOnA pointsFrom
-  draws-a f v =
-      let normal = planeAt s n f .normal in
-      let images = map (imageOf normal) (candidatesOf s n l t m k x f v) in
-      record {
-        normal = normal;
-        images = images;
-        points = pointsOf (arbitraryPerpOf normal) normal images;
-        places = placesOf (arbitraryPerpOf normal) normal images;
-        source = on-face-a f v;
-        holds = refl;
-        chosen = chosen (arbitraryPerpOf normal) normal images;
-      }
+  abbrev Full : Source
+  Full = fullSource s n l t m k x
 
-  draws-b : (f v : ℕ) → Draws (contactOnB x (planeAt t m f .normal) (candidatesOf t m k s n l (invertOf x) f v))
-  unfolding contactOnB pointsFrom
-  draws-b f v =
+  -- ---- the points of a source are chosen from its images
+  -- of face B: its own images, then carried
+  carried-b : (f v : ℕ) → let normal = planeAt t m f .normal in let candidates = candidatesOf t m k s n l (invertOf x) f v in
+      Chosen (imagesFrom s n l t m k x (face-b f v)) (map (carriedOf x) (pointsFrom normal candidates)) (placesFrom s n l t m k x (face-b f v))
+  unfolding imagesFrom imageFrom candidatesFrom placesFrom placesOn pointsFrom
+  carried-b f v =
       let normal = planeAt t m f .normal in
       let images = map (imageOf normal) (candidatesOf t m k s n l (invertOf x) f v) in
-      record {
-        normal = negOf (mulMvOf (matrixOf (x .q)) normal);
-        images = map (carriedOf x) images;
-        points = map (carriedOf x) (pointsOf (arbitraryPerpOf normal) normal images);
-        places = placesOf (arbitraryPerpOf normal) normal images;
-        source = on-face-b f v;
-        holds = refl;
-        chosen = carried-chosen (carriedOf x) images _ _ (chosen (arbitraryPerpOf normal) normal images);
-      }
+      subst (λ (is : List ClipVertex). Chosen is (map (carriedOf x) (pointsOf (arbitraryPerpOf normal) normal images)) (placesOf (arbitraryPerpOf normal) normal
+      images)) (map-twice (carriedOf x) (imageOf normal) (candidatesOf t m k s n l (invertOf x) f v))
+      (carried-chosen (carriedOf x) images _ _ (chosen (arbitraryPerpOf normal) normal images))
 
-  draws-edges : (normal : Vec3) (a b : ℕ) → Draws (contactOf normal (edgePoint (nearestOf s n l t m k x a b) normal a b ∷ []))
-  draws-edges normal a b =
-      let point = edgePoint (nearestOf s n l t m k x a b) normal a b in
-      record {
-        normal = normal;
-        images = point ∷ [];
-        points = point ∷ [];
-        places = 0 ∷ [];
-        source = of-edges normal a b;
-        holds = refl;
-        chosen = one-chosen point;
-      }
+  own-a : (f v : ℕ) → let normal = planeAt s n f .normal in let candidates = candidatesOf s n l t m k x f v in
+      Chosen (imagesFrom s n l t m k x (face-a f v)) (pointsFrom normal candidates) (placesFrom s n l t m k x (face-a f v))
+  unfolding imagesFrom imageFrom candidatesFrom placesFrom placesOn pointsFrom
+  own-a f v = chosen (arbitraryPerpOf (planeAt s n f .normal)) (planeAt s n f .normal) _
 
-  -- ---- what is built
-  abbrev Builds : Built → Type 0
-  Builds built = Draws (built .contact)
+  abbrev Taken : Source → List ClipVertex → Type 0
+  Taken source points = Chosen (imagesFrom s n l t m k x source) points (placesFrom s n l t m k x source)
 
-  builds-on : (contact : Contact) (kind a b : ℕ) (candidates : List ClipVertex) → Draws contact → Builds (onFace contact kind a b candidates)
-  unfolding onFace touchedOf
-  builds-on contact kind a b candidates d =
-      picked Builds (ltb 64 (length candidates)) draws-none (picked Builds (touchingOf (length candidates) (leastSeparationOf candidates)) d draws-none)
+  pub drawn : (source : Source) → Taken source (pointsTaken s n l t m k x source)
+  unfolding pointsTaken imagesFrom imageFrom candidatesFrom placesFrom
+  drawn (face-a f v) = subst (Taken (face-a f v)) (own-a f v .same) (own-a f v)
+  drawn (face-b f v) = subst (Taken (face-b f v)) (carried-b f v .same) (carried-b f v)
+  drawn (edges normal a b) = one-chosen (edgePoint (nearestOf s n l t m k x a b) normal a b)
+  drawn (none why) = none-chosen
 
-  builds-a : (f v : ℕ) → Builds (faceAOf s n l t m k x f v)
-  unfolding faceAOf
-  builds-a f v = picked Builds (ltb v (t .vertices)) (builds-on _ 2 f v (candidatesOf s n l t m k x f v) (draws-a f v)) draws-none
+  -- ---- the contact of each source
+  of-none : (why : Reason) → emptyContact ≡ From (none why)
+  unfolding contactFrom pointsTaken placesFrom normalFrom contactOf normalOf
+  of-none why = refl
 
-  builds-b : (f v : ℕ) → Builds (faceBOf s n l t m k x f v)
-  unfolding faceBOf
-  builds-b f v = picked Builds (ltb v (s .vertices)) (builds-on _ 3 v f (candidatesOf t m k s n l (invertOf x) f v) (draws-b f v)) draws-none
+  of-face-a : (f v : ℕ) → contactOnA (planeAt s n f .normal) (candidatesOf s n l t m k x f v) ≡ From (face-a f v)
+  unfolding contactOnA contactFrom pointsTaken normalFrom
+  of-face-a f v = ap (contactOf (planeAt s n f .normal)) (own-a f v .same)
 
-  builds-edges : (normal : Vec3) (a b : ℕ) → Builds (edgeContactOf s n l t m k x normal a b)
-  unfolding edgeContactOf alongOf touchedOf
-  builds-edges normal a b = picked Builds (isWithinSegmentsOf (nearestOf s n l t m k x a b)) (draws-edges normal a b) draws-none
+  of-face-b : (f v : ℕ) → contactOnB x (planeAt t m f .normal) (candidatesOf t m k s n l (invertOf x) f v) ≡ From (face-b f v)
+  unfolding contactOnB contactFrom pointsTaken normalFrom
+  of-face-b f v = ap (contactOf (negOf (mulMvOf (matrixOf (x .q)) (planeAt t m f .normal)))) (carried-b f v .same)
+
+  of-edges : (normal : Vec3) (a b : ℕ) → contactOf normal (edgePoint (nearestOf s n l t m k x a b) normal a b ∷ []) ≡ From (edges normal a b)
+  unfolding contactFrom pointsTaken imagesFrom imageFrom candidatesFrom placesFrom normalFrom
+  of-edges normal a b = refl
+
+  -- ---- what is built of a source, where the work meets no refusal
+  record Made (built : Built) (source : Source) : Type 0 where
+    touching : built .touching ≡ Touch source
+    contact : built .contact ≡ From (ifTouching s n l t m k x source)
+    separation : Touch source ≡ true → float (built .cache .separation) ≡ separationFrom s n l t m k x source
+
+  made-of : (source : Source) (contact : Contact) (separation : Float) (kind a b : ℕ) → contact ≡ From source
+      → float (toBits binary32 separation) ≡ separationFrom s n l t m k x source
+      → Made (cond (Touch source) (touchedOf contact separation kind a b) missed) source
+  unfolding touchedOf ifTouching
+  made-of source contact separation kind a b c d =
+      cases (Touch source)
+      (λ p. rw p (record { touching = sym p; contact = rw p c; separation = λ h. d }))
+      (λ p. rw p (record { touching = sym p; contact = rw p (of-none not-touching); separation = λ h. absurd (false≢true (sym p ∙ h)) }))
+
+  -- "6: .. a 65th vertex" and "5: .. a support vertex not below V" are refusals; else the contact is that of its source
+  abbrev Makes : Built → Source → Type 0
+  Makes built source = built .status ≡ 0 → Made built source
+
+  makes-face : (source : Source) (good full : Bool) (built : Built) → Made built source
+      → Makes (cond good (cond full (refusedAt 6) built) (refusedAt 5)) source
+  makes-face source true true built d q = absurd (omega (arith, q))
+  makes-face source true false built d q = d
+  makes-face source false full built d q = absurd (omega (arith, q))
+
+  makes-a : (f v : ℕ) → Makes (faceAOf s n l t m k x f v) (face-a f v)
+  unfolding faceAOf onFace touches candidatesFrom separationFrom
+  makes-a f v =
+      makes-face (face-a f v) (ltb v (t .vertices)) (ltb 64 (length (candidatesOf s n l t m k x f v))) _
+      (made-of (face-a f v) _ _ 2 f v (of-face-a f v) refl)
+
+  makes-b : (f v : ℕ) → Makes (faceBOf s n l t m k x f v) (face-b f v)
+  unfolding faceBOf onFace touches candidatesFrom separationFrom
+  makes-b f v =
+      makes-face (face-b f v) (ltb v (s .vertices)) (ltb 64 (length (candidatesOf t m k s n l (invertOf x) f v))) _
+      (made-of (face-b f v) _ _ 3 v f (of-face-b f v) refl)
+
+  made-edges : (normal : Vec3) (a b : ℕ) → Made (edgeContactOf s n l t m k x normal a b) (edges normal a b)
+  unfolding edgeContactOf alongOf touches separationFrom
+  made-edges normal a b = made-of (edges normal a b) _ _ 4 a b (of-edges normal a b) refl
 
   -- ---- the full search
-  builds-axis-a : (a : Axis) → Builds (contactA s n l t m k x a)
-  unfolding contactA
-  builds-axis-a a = builds-a (a .«index_a») (a .«index_b»)
+  makes-winner : (a b : Axis) → Makes (winnerContact s n l t m k x a b) (winnerOf a b)
+  unfolding winnerContact contactA contactB winnerOf
+  makes-winner a b = choice Makes (Ieee.lt (b .separation) (a .separation)) _ refl (λ h. makes-a _ _) (λ h. makes-b _ _)
 
-  builds-axis-b : (b : Axis) → Builds (contactB s n l t m k x b)
-  unfolding contactB
-  builds-axis-b b = builds-b (b .«index_b») (b .«index_a»)
+  -- no points stand in the contact exactly where none of the places is taken
+  stand : (source : Source) (contact : Contact) → contact ≡ From source → contact .count ≡ length (placesFrom s n l t m k x source)
+  unfolding contactFrom pointsTaken contactOf
+  stand source contact e = ap (λ (c : Contact). c .count) e ∙ length-map (placesFrom s n l t m k x source) _
 
-  builds-pair : (e : Axis) → Builds (pairContact s n l t m k x e)
-  unfolding pairContact
-  builds-pair e = builds-edges (e .normal) (e .«index_a») (e .«index_b»)
+  tries : (built : Built) (source : Source) (e : Axis) → Made built source
+      → triesEdge built e ≡ triedOver s n l t m k x (ifTouching s n l t m k x source) e
+  unfolding triesEdge triedOver ifTouching placesFrom
+  tries built source e d =
+      cases (Touch source)
+      (λ p. let c : built .contact ≡ From source = rw p at (d .contact) in rw (p, sym (stand source _ c), sym (d .separation p)) refl)
+      (λ p. let c : built .contact ≡ From (none not-touching) = rw p at (d .contact) in rw (p, stand (none not-touching) _ c) refl)
 
-  builds-winner : (a b : Axis) → Builds (winnerContact s n l t m k x a b)
-  unfolding winnerContact
-  builds-winner a b = picked Builds (Ieee.lt (b .separation) (a .separation)) (builds-axis-a a) (builds-axis-b b)
+  abbrev Draws : Built → Source → Type 0
+  Draws built source = built .contact ≡ From source
 
-  builds-with : (built : Built) (edge : EdgeAxis) → Builds built → Builds (withEdge s n l t m k x built edge)
-  unfolding withEdge insteadOf
-  builds-with built (EdgeAxis.Pair e) d = picked Builds (triesEdge built e) (picked Builds (pairContact s n l t m k x e .touching) (builds-pair e) d) d
-  builds-with built EdgeAxis.None d = d
+  draws-with : (built : Built) (source : Source) (edge : EdgeAxis) → Made built source
+      → Draws (withEdge s n l t m k x built edge) (orPair s n l t m k x (ifTouching s n l t m k x source) edge)
+  unfolding withEdge insteadOf pairContact orPair ifTouching
+  draws-with built source EdgeAxis.None d = d .contact
+  draws-with built source (EdgeAxis.Pair e) d =
+      let pair = made-edges (e .normal) (e .«index_a») (e .«index_b») in
+      choice Draws _ _ (tries built source e d)
+      (λ h. choice Draws _ _ (pair .touching) (λ q. rw (sym (pair .touching) ∙ q) at (pair .contact)) (λ q. d .contact))
+      (λ h. d .contact)
 
-  builds-found : (a b : Axis) (edge : EdgeAxis) → Builds (foundContact s n l t m k x a b edge)
+  -- a refusal that the face contact met stays one
+  draws-found : (a b : Axis) (edge : EdgeAxis) → foundContact s n l t m k x a b edge .status ≡ 0
+      → Draws (foundContact s n l t m k x a b edge) (orPair s n l t m k x (ifTouching s n l t m k x (winnerOf a b)) edge)
   unfolding foundContact
-  builds-found a b edge =
+  draws-found a b edge q =
       let w = winnerContact s n l t m k x a b in
-      picked Builds (eqb (w .status) 0) (builds-with w edge (builds-winner a b)) (builds-winner a b)
+      cases (eqb (w .status) 0)
+      (λ p. rw p (draws-with w _ edge (makes-winner a b (eqb-true _ _ p))))
+      (λ p. absurd (eqb-false _ _ p (rw p at q)))
 
-  after : (search : Search) → Builds (afterSearch s n l t m k x search)
-  unfolding afterSearch apartBuilt
-  after (Search.Apart a) = draws-none
-  after (Search.Found f) = builds-found (f .«face_a») (f .«face_b») (f .edge)
+  draws-search : (search : Search) → afterSearch s n l t m k x search .status ≡ 0 → Draws (afterSearch s n l t m k x search) (searchSource s n l t m k x search)
+  unfolding afterSearch apartBuilt searchSource
+  draws-search (Search.Apart a) q = of-none apart
+  draws-search (Search.Found f) q = draws-found (f .«face_a») (f .«face_b») (f .edge) q
 
-  builds-full : Builds (fullOf s n l t m k x)
-  unfolding fullOf
-  builds-full = after _
+  -- ---- the answers: what is drawn where the call is accepted
+  abbrev Answers : Answer → Source → Type 0
+  Answers answer source = answer .outcome .status ≡ 0 → answer .outcome .contact ≡ From source
+
+  answers-full : (cache : SatCache) → Answers (answerOf cache (fullOf s n l t m k x)) Full
+  unfolding answerOf fullOf fullSource
+  answers-full cache q =
+      let built = afterSearch s n l t m k x (searchOf s n l t m k x) in
+      cases (eqb (built .status) 0)
+      (λ p. rw p (draws-search _ (eqb-true _ _ p)))
+      (λ p. absurd (eqb-false _ _ p (rw p at q)))
+
+  -- a hit, or the full search
+  answers-hit : (cache : SatCache) (contact : Contact) (source : Source) → contact ≡ From source
+      → Answers (afterCached s n l t m k x cache (hitWith contact)) source
+  unfolding afterCached
+  answers-hit cache contact source e q = e
+
+  answers-no-hit : (cache : SatCache) → Answers (afterCached s n l t m k x cache (noHit 0)) Full
+  unfolding afterCached
+  answers-no-hit cache = answers-full cache
+
+  answers-refused : (cache : SatCache) (cached : Cached) (source : Source) → eqb (cached .status) 0 ≡ false
+      → Answers (afterCached s n l t m k x cache cached) source
+  unfolding afterCached
+  answers-refused cache cached source p q = absurd (eqb-false _ _ p (rw p at q))
+
+  -- the two separations differ by less than slop
+  near-same : (cache : SatCache) (built : Built) (source : Source) → Made built source → Touch source ≡ true
+      → nearOf cache (built .cache) ≡ Ieee.lt (absOf (float (cache .separation) ⊖ separationFrom s n l t m k x source)) slop
+  unfolding nearOf
+  near-same cache built source d p = ap (λ (z : Float). Ieee.lt (absOf (float (cache .separation) ⊖ z)) slop) (d .separation p)
+
+  abbrev After : SatCache → Cached → Source → Type 0
+  After cache cached = Answers (afterCached s n l t m k x cache cached)
+
+  after-served : (cache : SatCache) (built : Built) (source : Source) → Makes built source
+      → After cache (servedOf cache built) (cond (serves s n l t m k x cache source) source Full)
+  unfolding servedOf serves ifTouching
+  after-served cache built source h =
+      cases (eqb (built .status) 0)
+      (λ p. let d = h (eqb-true _ _ p) in
+      cases (Touch source)
+      (λ u. rw (p, d .touching, u)
+      (choice (After cache) _ _ (near-same cache built source d u) (λ v. answers-hit cache _ source (rw u at (d .contact))) (λ v. answers-no-hit cache)))
+      (λ u. rw (p, d .touching, u) (answers-no-hit cache)))
+      (λ p. rw p (answers-refused cache (noHit (built .status)) _ p))
 
   -- ---- the cached axis
-  abbrev Serves : Cached → Type 0
-  Serves cached = Draws (cached .contact)
+  after-face-a : (cache : SatCache) → let f = cache .«index_a» in
+      After cache (cachedFaceAOf s n l t m k x cache)
+      (cachedSource s n l t m k x cache (Ieee.le speculative (separationFromA s n t m x f)) (face-a f (deepestBelowA s n t m x f)))
+  unfolding cachedFaceAOf cachedSource
+  after-face-a cache =
+      choice (After cache) (Ieee.le speculative (separationFromA s n t m x (cache .«index_a»))) _ refl
+      (λ h. answers-hit cache _ _ (of-none apart)) (λ h. after-served cache _ _ (makes-a _ _))
 
-  serves : (cache : SatCache) (built : Built) → Builds built → Serves (servedOf cache built)
-  unfolding servedOf
-  serves cache built d =
-      picked Serves (eqb (built .status) 0) (picked Serves (built .touching) (picked Serves (nearOf cache (built .cache)) d draws-none) draws-none) draws-none
+  after-face-b : (cache : SatCache) → let f = cache .«index_b» in
+      After cache (cachedFaceBOf s n l t m k x cache)
+      (cachedSource s n l t m k x cache (Ieee.le speculative (separationFromB s n t m x f)) (face-b f (deepestBelowB s n t m x f)))
+  unfolding cachedFaceBOf cachedSource
+  after-face-b cache =
+      choice (After cache) (Ieee.le speculative (separationFromB s n t m x (cache .«index_b»))) _ refl
+      (λ h. answers-hit cache _ _ (of-none apart)) (λ h. after-served cache _ _ (makes-b _ _))
 
-  serves-a : (cache : SatCache) → Serves (cachedFaceAOf s n l t m k x cache)
-  unfolding cachedFaceAOf
-  serves-a cache = picked Serves (Ieee.le speculative (separationFromA s n t m x (cache .«index_a»))) draws-none (serves cache _ (builds-a _ _))
-
-  serves-b : (cache : SatCache) → Serves (cachedFaceBOf s n l t m k x cache)
-  unfolding cachedFaceBOf
-  serves-b cache = picked Serves (Ieee.le speculative (separationFromB s n t m x (cache .«index_b»))) draws-none (serves cache _ (builds-b _ _))
-
-  serves-edge : (cache : SatCache) → Serves (cachedEdgeOf s n l t m k x cache)
-  unfolding cachedEdgeOf
-  serves-edge cache =
+  after-edge : (cache : SatCache)
+      → After cache (cachedEdgeOf s n l t m k x cache)
+      (cachedEdges s n l t m k x cache (ridgeOf s n l (cache .«index_a»)) (carriedRidge x t m k (cache .«index_b»)))
+  unfolding cachedEdgeOf cachedEdges cachedSource
+  after-edge cache =
       let a = ridgeOf s n l (cache .«index_a») in
       let b = carriedRidge x t m k (cache .«index_b») in
-      picked Serves (crossesOf a b)
-      (picked Serves (Ieee.lt speculative (dotOf (axisBetween a b) (subOf (a .end) (b .end)))) draws-none (serves cache _ (builds-edges _ _ _)))
-      draws-none
+      choice (After cache) (crossesOf a b) _ refl
+      (λ h. choice (After cache) (Ieee.lt speculative (dotOf (axisBetween a b) (subOf (a .end) (b .end)))) _ refl
+      (λ q. answers-hit cache _ _ (of-none apart))
+      (λ q. after-served cache _ _ (λ z. made-edges _ _ _)))
+      (λ h. answers-no-hit cache)
 
   -- ---- the call
-  abbrev Answers : Answer → Type 0
-  Answers answer = Draws (answer .outcome .contact)
-
-  answers : (cache : SatCache) (built : Built) → Builds built → Answers (answerOf cache built)
-  unfolding answerOf
-  answers cache built d = picked Answers (eqb (built .status) 0) d draws-none
-
-  answers-cached : (cache : SatCache) (cached : Cached) → Serves cached → Answers (afterCached s n l t m k x cache cached)
-  unfolding afterCached
-  answers-cached cache cached d = picked Answers (eqb (cached .status) 0) (picked Answers (cached .hit) d (answers cache _ builds-full)) draws-none
-
-  answers-worked : (cache : SatCache) → Answers (workedOf s n l t m k x cache)
-  unfolding workedOf
+  answers-worked : (cache : SatCache) → Answers (workedOf s n l t m k x cache) (workSource s n l t m k x cache)
+  unfolding workedOf workSource
   answers-worked cache =
-      picked Answers (eqb (cache .kind) 2) (answers-cached cache _ (serves-a cache))
-      (picked Answers (eqb (cache .kind) 3) (answers-cached cache _ (serves-b cache))
-      (picked Answers (eqb (cache .kind) 4) (answers-cached cache _ (serves-edge cache))
-      (answers cache _ builds-full)))
+      choice Answers (eqb (cache .kind) 2) _ refl (λ h. after-face-a cache)
+      (λ h. choice Answers (eqb (cache .kind) 3) _ refl (λ q. after-face-b cache)
+      (λ q. choice Answers (eqb (cache .kind) 4) _ refl (λ z. after-edge cache) (λ z. answers-full cache)))
 
-  pub answers-call : (capacity : ℤ) (cache : SatCache) → Answers (collideOf s n l t m k x capacity cache)
+  small-call : (capacity : ℤ) (cache : SatCache) → ltZ capacity (pos 4) ≡ true
+      → collideOf s n l t m k x capacity cache .outcome .contact ≡ From (none small-capacity)
   unfolding collideOf
+  small-call capacity cache small = rw small (of-none small-capacity)
+
+  wide-call : (capacity : ℤ) (cache : SatCache) → ltZ capacity (pos 4) ≡ false
+      → Answers (collideOf s n l t m k x capacity cache) (workSource s n l t m k x cache)
+  unfolding collideOf
+  wide-call capacity cache wide = rw wide
+      (cases (eqb (refusalOf s n l t m k x cache) 0) (λ p. rw p (answers-worked cache)) (λ p. rw p (λ q. absurd (eqb-false _ _ p q))))
+
+  pub answers-call : (capacity : ℤ) (cache : SatCache)
+      → collideOf s n l t m k x capacity cache .outcome .contact ≡ From (sourceOf s n l t m k x capacity cache)
+  unfolding sourceOf
   answers-call capacity cache =
-      picked Answers (ltZ capacity (pos 4)) draws-none (picked Answers (eqb (refusalOf s n l t m k x cache) 0) (answers-worked cache) draws-none)
+      let status = call-status s n l t m k x capacity cache in
+      cases (ltZ capacity (pos 4))
+      (λ small. rw small (small-call capacity cache small))
+      (λ wide. rw wide (cases (eqb (numberOf s n l t m k x capacity cache) 0)
+      (λ p. rw p (wide-call capacity cache wide (status ∙ eqb-true _ _ p)))
+      (λ p. rw p (keeps-call cache s n l t m k x capacity .empty (λ z. eqb-false _ _ p (sym status ∙ z)) ∙ of-none refused))))

@@ -1,5 +1,7 @@
+pub mod Choices
 pub mod Statuses
 pub mod Draws
+pub mod Empty
 pub mod Later
 pub mod Marks
 pub mod Refusals
@@ -8,3 +10,4 @@ pub mod Rounds
 pub mod Points
 pub mod Separations
 pub mod Retired
+pub mod Incident

@@ -1,7 +1,7 @@
 -- Demand 1, the refusals. "Input is refused exactly when it breaks a rule of document 01, never on the caller's word; a refusal gives its number and
 -- an empty contact, and the lent cache keeps every bit." Of every call, whatever is lent. Assumes nothing.
 use Prim.Native.Nat.{ℕ, _≤_, _<_}
-use mathlib.Core.Bool.{Bool, true, false, cond}
+use mathlib.Core.Bool.{Bool, true, false, cond, false≢true}
 use mathlib.Core.List.{List, [], _∷_}
 use mathlib.Core.Path.{_≡_, sym, ap, subst, _∙_}
 use native.Mathlib.Omega.{arith}
@@ -20,16 +20,16 @@ use Rattle.hull_links.specs.declared.HullSize.{HullSize}
 use Rattle.hull_links.proofs.Tests.{cases}
 use Rattle.hull_limits.specs.Transform.{transformRight}
 use Rattle.hull.specs.Rule8.{brokenRule}
+use Rattle.axis.specs.Search.{searchOf}
 use Rattle.collide_refusals.specs.Refusals.{cacheRight, refusalOf}
 use Rattle.collide_outcome.specs.Answers.{accepted}
 use Rattle.collide.specs.Call.{collideOf}
 use Rattle.contactlib.specs.Lent.{Called}
 use Rattle.contactlib.proofs.Keeps.{keeps-call}
 use Rattle.collide_refusals.proofs.Cases.{refuses-1, refuses-2, refuses-3, refuses-4}
-use Rattle.promises.specs.Numbers.{Exactly, workMeets, numberOf}
+use Rattle.promises.specs.Numbers.{Exactly, firstGiven, paddingWon, cachedMeets, hits, workMeets, numberOf}
 use Rattle.promises.proofs.Statuses.{call-status}
-use Rattle.promises.proofs.Later.{at-most, broken-at, work-late, work-up-to-6}
-use Rattle.promises.specs.Numbers.{firstGiven}
+use Rattle.promises.proofs.Later.{at-most, broken-at, work-late, work-up-to-6, cached-never-5, full-5}
 
 -- hull A is (s, n, l), hull B is (t, m, k), and x places B in A's frame
 module _ (s : HullSize) (n : List Float) (l : List ℕ) (t : HullSize) (m : List Float) (k : List ℕ) (x : Transform) (capacity : ℤ) (was : SatCache) where
@@ -146,9 +146,36 @@ module _ (s : HullSize) (n : List Float) (l : List ℕ) (t : HullSize) (m : List
         cases (eqb early 0) (λ none. eqb-true _ _ none)
         (λ some. let is-early : r .status ≡ early = number ∙ rw (wide, some) in absurd (eqb-false _ _ some (sym is-early ∙ q)))
 
-    early-low : early ≤ 5
+    early-low : early ≤ 4
     unfolding refusalOf
-    early-low = at-most 1 tests
+    early-low = let most : early ≤ 5 = at-most 1 tests in
+        cases (eqb early 5) (λ five. absurd (false≢true (sym (broken-at 1 4 tests (omega arith) (eqb-true _ _ five) .0))))
+        (λ other. let q = eqb-false early 5 other in omega (arith, most, q))
+
+    -- "5: the face a full .. search picks for a contact has a support vertex not below V (a padding lane won)": a full search is made where the cached
+    -- axis neither serves nor meets 6, and no cached face is refused by 5
+    abbrev Searches : Type 0
+    Searches = (cachedMeets s n l t m k x was ≡ 0) × (hits s n l t m k x was ≡ false)
+
+    abbrev PaddingWon : Type 0
+    PaddingWon = paddingWon s n l t m k x (searchOf s n l t m k x) ≡ true
+
+    pub padding : Exactly (Wide × (early ≡ 0) × Searches × PaddingWon) 5 (r .status)
+    unfolding numberOf firstGiven workMeets
+    padding =
+        record {
+          given = λ h. number ∙ rw (h .0, eq-eqb _ _ (h .1), eq-eqb _ _ (h .2 .0), h .2 .1) (full-5 s n l t m k x .given (h .3));
+          only = λ q. from-work (sym number ∙ q);
+        }
+      where
+        from-work : numberOf s n l t m k x capacity was ≡ 5 → Wide × (early ≡ 0) × Searches × PaddingWon
+        from-work q =
+            cases (ltZ capacity (pos 4)) (λ small. absurd (omega (arith, rw small at q)))
+            (λ wide. cases (eqb early 0) (λ none. cases (eqb (cachedMeets s n l t m k x was) 0)
+            (λ quiet. cases (hits s n l t m k x was) (λ hit. absurd (omega (arith, rw (wide, none, quiet, hit) at q)))
+            (λ miss. (wide, eqb-true _ _ none, (eqb-true _ _ quiet, miss), full-5 s n l t m k x .only (rw (wide, none, quiet, miss) at q))))
+            (λ met. absurd (cached-never-5 s n l t m k x was (rw (wide, none, met) at q))))
+            (λ some. absurd (omega (arith, early-low, rw (wide, some) at q))))
 
     -- no number above 6 is given
     pub up-to-6 : r .status ≤ 6

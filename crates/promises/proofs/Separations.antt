@@ -1,7 +1,7 @@
 -- Request k: every face separation is a finite number, and so the first face always becomes the best. In each of the four units, and so on accepted
 -- input, whose unit is 1. Assumes nothing.
 use Prim.Native.Nat.{ℕ, _<_}
-use mathlib.Core.Bool.{true, false}
+use mathlib.Core.Bool.{true}
 use mathlib.Core.List.{List}
 use mathlib.Core.Path.{_≡_, refl}
 use lib.Ieee.{Float, mul, ofBits}
@@ -23,8 +23,9 @@ use Rattle.hull.specs.Rule8.{smallAt, brokenRule}
 use Rattle.hull.proofs.Laws.{plane-passed}
 use Rattle.hull.proofs.Accepted.{vertex-below, box-below, numbers-passed, accepted}
 use Rattle.axis_best.specs.Leads.{leadAfter}
-use Rattle.axis_faces.specs.Ready.{Facing}
-use Rattle.axis_faces.proofs.Found.{separation-finite, first-best, found}
+use Rattle.axis_faces.specs.declared.Side.{Side}
+use Rattle.axis_faces.specs.inner.Ready.{Facing}
+use Rattle.axis_faces.proofs.Found.{newFace, separation-finite, first-best, found}
 use Rattle.axis.specs.Search.{sideOfA, sideOfB}
 use Rattle.promises.specs.Separations.{LengthUnit, one, ten, hundred, thousand, smallIn, moderateIn, HullInside, TransformInside, FacesFound}
 
@@ -66,17 +67,17 @@ module _ {unit : Float} (u : LengthUnit unit) where
   -- ---- the request, in each of the four units
   pub in-every-unit : {s t : HullSize} {n m : List Float} {x : Transform} → HullInside unit s n → HullInside unit t m → TransformInside unit x
       → FacesFound s n t m x
-  unfolding leadAfter sideOfA sideOfB
+  unfolding leadAfter newFace sideOfA sideOfB
   in-every-unit a b p =
       let of-a = facing a b p (transpose-below (rows-below p)) in
       let of-b = facing b a p (rows-below p) in
       record {
-        finite-a = separation-finite of-a true;
-        finite-b = separation-finite of-b false;
-        first-a = first-best of-a true;
-        first-b = first-best of-b false;
-        found-a = found of-a true;
-        found-b = found of-b false;
+        finite-a = separation-finite Side.A of-a;
+        finite-b = separation-finite Side.B of-b;
+        first-a = first-best Side.A of-a;
+        first-b = first-best Side.B of-b;
+        found-a = found Side.A of-a;
+        found-b = found Side.B of-b;
       }
 
 -- ---- what is accepted is inside at unit 1

@@ -1,59 +1,62 @@
 -- The status of each part of the call is the number that specs/Numbers.antt has for it, and so is the call's. Assumes nothing.
-use Prim.Native.Nat.{ℕ}
-use mathlib.Core.Bool.{Bool, true, false, cond, not}
-use mathlib.Core.List.{List, [], _∷_}
+use Prim.Native.Nat.{ℕ, _<_}
+use mathlib.Core.Bool.{Bool, true, cond}
+use mathlib.Core.List.{List}
 use mathlib.Core.Path.{_≡_, refl, sym, ap, _∙_}
+use native.Mathlib.Omega.{arith}
 use lib.ListN.{length}
 use lib.Dec.{eqb, ltb}
 use lib.IntN.{ℤ, pos}
 use lib.Signed.{ltZ}
 use lib.Ieee as Ieee
 use lib.Ieee.{Float}
-use borrow.Author.Tests.{eqb-true}
+use borrow.Author.Tests.{eqb-true, lt-ltb}
 use Rattle.bounds.proofs.Laws.{picked}
 use Rattle.vector.specs.declared.Transform.{Transform}
 use Rattle.vector.specs.Arithmetic.{subOf, dotOf}
 use Rattle.vector.specs.Awaited.{isWithinSegmentsOf}
+use Rattle.vector.proofs.Farthest.{support-below}
 use Rattle.rotation.specs.Rotation.{invertOf}
+use Rattle.manifold.specs.declared.ClipVertex.{ClipVertex}
 use Rattle.manifold.specs.declared.SatCache.{SatCache}
+use Rattle.manifold.specs.declared.Contact.{Contact}
 use Rattle.manifold.specs.declared.Answer.{Answer}
 use Rattle.manifold.specs.Limits.{speculative}
 use Rattle.hull_links.specs.declared.HullSize.{HullSize}
-use Rattle.hull_links.specs.Tests.{firstBroken}
 use Rattle.hull_links.proofs.Tests.{cases}
+use Rattle.hull.specs.Numbers.{supportAt}
+use Rattle.hull.specs.Accepted.{Accepted}
 use Rattle.clip.specs.Candidates.{candidatesOf}
 use Rattle.reduce_scores.specs.Images.{leastSeparationOf, touchingOf}
 use Rattle.axis.specs.declared.Axis.{Axis}
 use Rattle.axis.specs.declared.EdgeAxis.{EdgeAxis}
 use Rattle.axis.specs.declared.Search.{Search}
 use Rattle.collide_outcome.specs.declared.Built.{Built}
-use Rattle.collide_outcome.specs.Builds.{touchedOf, refusedAt}
+use Rattle.collide_outcome.specs.Builds.{touchedOf}
 use Rattle.contacts.specs.Faces.{onFace, faceAOf, faceBOf}
 use Rattle.contacts.specs.EdgePairs.{nearestOf, alongOf, edgeContactOf}
 use Rattle.collide_outcome.specs.declared.Cached.{Cached}
 use Rattle.collide_cached.specs.Ridges.{ridgeOf, carriedRidge, crossesOf, axisBetween}
 use Rattle.collide_outcome.specs.Served.{nearOf, servedOf}
-use Rattle.collide_cached.specs.Again.{separationFromA, separationFromB, cachedFaceAOf, cachedFaceBOf, cachedEdgeOf}
+use Rattle.collide_cached.specs.Again.{deepestBelowA, separationFromA, cachedFaceAOf, deepestBelowB, separationFromB, cachedFaceBOf, cachedEdgeOf}
 use Rattle.collide_full.specs.Full.{apartBuilt, triesEdge, pairContact, contactA, contactB, winnerContact, insteadOf, withEdge, foundContact}
 use Rattle.collide_full.specs.Full.{afterSearch, fullOf}
 use Rattle.collide_refusals.specs.Refusals.{refusalOf}
+use Rattle.collide_refusals.proofs.Cases.{unrefused}
 use Rattle.collide_outcome.specs.Answers.{answerOf}
 use Rattle.collide.specs.Call.{afterCached, workedOf, collideOf}
-use Rattle.promises.specs.Numbers.{firstGiven, faceMeets, meetsOnA, meetsOnB, axisMeetsA, axisMeetsB, winnerMeets}
-use Rattle.promises.specs.Numbers.{fullMeets, cachedMeetsA, cachedMeetsB, workMeets, numberOf}
+use Rattle.promises.specs.Numbers.{firstGiven, cutMeets, faceMeets, winnerMeets, fullMeets, cachedMeets, hits, workMeets, numberOf}
+use Rattle.promises.proofs.Choices.{choice}
 
--- ---- the status of a choice, of what is built, of what is cached and of an answer
-built-choice : (b : Bool) (y z : Built) (p q : ℕ) → y .status ≡ p → z .status ≡ q → cond b y z .status ≡ cond b p q
-built-choice true y z p q e f = e
-built-choice false y z p q e f = f
+-- ---- the status of what is built, of what is cached and of an answer
+abbrev OfBuilt : Built → ℕ → Type 0
+OfBuilt built number = built .status ≡ number
 
-cached-choice : (b : Bool) (y z : Cached) (p q : ℕ) → y .status ≡ p → z .status ≡ q → cond b y z .status ≡ cond b p q
-cached-choice true y z p q e f = e
-cached-choice false y z p q e f = f
+abbrev OfCached : Cached → ℕ → Type 0
+OfCached cached number = cached .status ≡ number
 
-answer-choice : (b : Bool) (y z : Answer) (p q : ℕ) → y .outcome .status ≡ p → z .outcome .status ≡ q → cond b y z .outcome .status ≡ cond b p q
-answer-choice true y z p q e f = e
-answer-choice false y z p q e f = f
+abbrev OfAnswer : Answer → ℕ → Type 0
+OfAnswer answer number = answer .outcome .status ≡ number
 
 -- a number that is 0 gives way to one that is 0 too
 zero-gives-way : (a b : ℕ) → (a ≡ 0 → b ≡ 0) → cond (eqb a 0) b a ≡ a
@@ -62,51 +65,41 @@ zero-gives-way a b h =
     (λ p. ap (λ (z : Bool). cond z b a) p ∙ (h (eqb-true a 0 p) ∙ sym (eqb-true a 0 p)))
     (λ p. ap (λ (z : Bool). cond z b a) p)
 
-face-status : (b c : Bool) (built : Built) → built .status ≡ 0 → cond b (cond c (refusedAt 6) built) (refusedAt 5) .status ≡ firstBroken 5 (b ∷ not c ∷ [])
-unfolding firstBroken
-face-status true true built q = refl
-face-status true false built q = q
-face-status false c built q = refl
-
 abbrev Fine : Built → Type 0
 Fine built = built .status ≡ 0
 
 answer-status : (cache : SatCache) (built : Built) → answerOf cache built .outcome .status ≡ built .status
 unfolding answerOf
-answer-status cache built = answer-choice (eqb (built .status) 0) _ _ 0 (built .status) refl refl ∙ zero-gives-way (built .status) 0 (λ h. refl)
+answer-status cache built =
+    choice OfAnswer (eqb (built .status) 0) _ refl (λ h. refl) (λ h. refl) ∙ zero-gives-way (built .status) 0 (λ h. refl)
 
 served-status : (cache : SatCache) (built : Built) → servedOf cache built .status ≡ built .status
 unfolding servedOf
 served-status cache built =
-    cached-choice (eqb (built .status) 0) _ _ 0 (built .status)
-    (picked (λ (c : Cached). c .status ≡ 0) (built .touching) (picked (λ (c : Cached). c .status ≡ 0) (nearOf cache (built .cache)) refl refl) refl) refl
+    choice OfCached (eqb (built .status) 0) _ refl
+    (λ h. picked (λ (c : Cached). c .status ≡ 0) (built .touching) (picked (λ (c : Cached). c .status ≡ 0) (nearOf cache (built .cache)) refl refl) refl)
+    (λ h. refl)
     ∙ zero-gives-way (built .status) 0 (λ h. refl)
 
 module _ (s : HullSize) (n : List Float) (l : List ℕ) (t : HullSize) (m : List Float) (k : List ℕ) (x : Transform) where
   -- ---- what each contact meets
-  status-a : (f v : ℕ) → faceAOf s n l t m k x f v .status ≡ meetsOnA s n l t m k x f v
-  unfolding faceAOf onFace touchedOf meetsOnA faceMeets
-  status-a f v =
-      let c = candidatesOf s n l t m k x f v in
-      face-status (ltb v (t .vertices)) (ltb 64 (length c)) _ (picked Fine (touchingOf (length c) (leastSeparationOf c)) refl refl)
+  on-status : (contact : Contact) (kind a b : ℕ) (candidates : List ClipVertex) → onFace contact kind a b candidates .status ≡ cutMeets candidates
+  unfolding onFace touchedOf cutMeets
+  on-status contact kind a b candidates =
+      choice OfBuilt (ltb 64 (length candidates)) _ refl (λ h. refl)
+      (λ h. picked Fine (touchingOf (length candidates) (leastSeparationOf candidates)) refl refl)
 
-  status-b : (f v : ℕ) → faceBOf s n l t m k x f v .status ≡ meetsOnB s n l t m k x f v
-  unfolding faceBOf onFace touchedOf meetsOnB faceMeets
-  status-b f v =
-      let c = candidatesOf t m k s n l (invertOf x) f v in
-      face-status (ltb v (s .vertices)) (ltb 64 (length c)) _ (picked Fine (touchingOf (length c) (leastSeparationOf c)) refl refl)
+  status-a : (f v : ℕ) → faceAOf s n l t m k x f v .status ≡ faceMeets t v (candidatesOf s n l t m k x f v)
+  unfolding faceAOf faceMeets
+  status-a f v = choice OfBuilt (ltb v (t .vertices)) _ refl (λ h. on-status _ 2 f v _) (λ h. refl)
+
+  status-b : (f v : ℕ) → faceBOf s n l t m k x f v .status ≡ faceMeets s v (candidatesOf t m k s n l (invertOf x) f v)
+  unfolding faceBOf faceMeets
+  status-b f v = choice OfBuilt (ltb v (s .vertices)) _ refl (λ h. on-status _ 3 v f _) (λ h. refl)
 
   status-pair : (e : Axis) → pairContact s n l t m k x e .status ≡ 0
   unfolding pairContact edgeContactOf alongOf touchedOf
   status-pair e = picked Fine (isWithinSegmentsOf (nearestOf s n l t m k x (e .«index_a») (e .«index_b»))) refl refl
-
-  status-axis-a : (a : Axis) → contactA s n l t m k x a .status ≡ axisMeetsA s n l t m k x a
-  unfolding contactA axisMeetsA
-  status-axis-a a = status-a _ _
-
-  status-axis-b : (b : Axis) → contactB s n l t m k x b .status ≡ axisMeetsB s n l t m k x b
-  unfolding contactB axisMeetsB
-  status-axis-b b = status-b _ _
 
   -- ---- the full search
   fine-with : (built : Built) (edge : EdgeAxis) → Fine built → Fine (withEdge s n l t m k x built edge)
@@ -118,30 +111,43 @@ module _ (s : HullSize) (n : List Float) (l : List ℕ) (t : HullSize) (m : List
   unfolding foundContact
   status-found a b edge =
       let w = winnerContact s n l t m k x a b in
-      built-choice (eqb (w .status) 0) _ w _ (w .status) refl refl ∙ zero-gives-way (w .status) _ (fine-with w edge)
-
-  status-winner : (a b : Axis) → winnerContact s n l t m k x a b .status ≡ cond (Ieee.lt (b .separation) (a .separation))
-      (axisMeetsA s n l t m k x a) (axisMeetsB s n l t m k x b)
-  unfolding winnerContact
-  status-winner a b = built-choice (Ieee.lt (b .separation) (a .separation)) _ _ _ _ (status-axis-a a) (status-axis-b b)
+      choice OfBuilt (eqb (w .status) 0) _ refl (λ h. refl) (λ h. refl) ∙ zero-gives-way (w .status) _ (fine-with w edge)
 
   after-status : (search : Search) → afterSearch s n l t m k x search .status ≡ winnerMeets s n l t m k x search
-  unfolding afterSearch apartBuilt winnerMeets
+  unfolding afterSearch apartBuilt winnerMeets winnerContact contactA contactB
   after-status (Search.Apart a) = refl
-  after-status (Search.Found f) = status-found _ _ _ ∙ status-winner (f .«face_a») (f .«face_b»)
+  after-status (Search.Found f) =
+      status-found (f .«face_a») (f .«face_b») (f .edge)
+      ∙ choice OfBuilt (Ieee.lt (f .«face_b» .separation) (f .«face_a» .separation)) _ refl (λ h. status-a _ _) (λ h. status-b _ _)
 
   full-status : fullOf s n l t m k x .status ≡ fullMeets s n l t m k x
   unfolding fullOf fullMeets
   full-status = after-status _
 
-  -- ---- the cached axis, and the full search after it
-  cached-a : (cache : SatCache) → cachedFaceAOf s n l t m k x cache .status ≡ cachedMeetsA s n l t m k x (cache .«index_a»)
-  unfolding cachedFaceAOf cachedMeetsA
-  cached-a cache = cached-choice (Ieee.le speculative (separationFromA s n t m x (cache .«index_a»))) _ _ 0 _ refl (served-status cache _ ∙ status-a _ _)
+  -- ---- the cached axis: the vertex deepest below a face is below V, so no cached face meets 5
+  deepest-a : (f : ℕ) → 0 < t .vertices → ltb (deepestBelowA s n t m x f) (t .vertices) ≡ true
+  unfolding deepestBelowA supportAt
+  deepest-a f some = lt-ltb _ _ (support-below _ _ _ _ (t .vertices) some)
 
-  cached-b : (cache : SatCache) → cachedFaceBOf s n l t m k x cache .status ≡ cachedMeetsB s n l t m k x (cache .«index_b»)
-  unfolding cachedFaceBOf cachedMeetsB
-  cached-b cache = cached-choice (Ieee.le speculative (separationFromB s n t m x (cache .«index_b»))) _ _ 0 _ refl (served-status cache _ ∙ status-b _ _)
+  deepest-b : (f : ℕ) → 0 < s .vertices → ltb (deepestBelowB s n t m x f) (s .vertices) ≡ true
+  unfolding deepestBelowB supportAt
+  deepest-b f some = lt-ltb _ _ (support-below _ _ _ _ (s .vertices) some)
+
+  cached-a : (cache : SatCache) → 0 < t .vertices → let f = cache .«index_a» in
+      OfCached (cachedFaceAOf s n l t m k x cache)
+      (cond (Ieee.le speculative (separationFromA s n t m x f)) 0 (cutMeets (candidatesOf s n l t m k x f (deepestBelowA s n t m x f))))
+  unfolding cachedFaceAOf faceMeets
+  cached-a cache some =
+      choice OfCached (Ieee.le speculative (separationFromA s n t m x (cache .«index_a»))) _ refl (λ h. refl)
+      (λ h. served-status cache _ ∙ (status-a _ _ ∙ rw (deepest-a (cache .«index_a») some)))
+
+  cached-b : (cache : SatCache) → 0 < s .vertices → let f = cache .«index_b» in
+      OfCached (cachedFaceBOf s n l t m k x cache)
+      (cond (Ieee.le speculative (separationFromB s n t m x f)) 0 (cutMeets (candidatesOf t m k s n l (invertOf x) f (deepestBelowB s n t m x f))))
+  unfolding cachedFaceBOf faceMeets
+  cached-b cache some =
+      choice OfCached (Ieee.le speculative (separationFromB s n t m x (cache .«index_b»))) _ refl (λ h. refl)
+      (λ h. served-status cache _ ∙ (status-b _ _ ∙ rw (deepest-b (cache .«index_b») some)))
 
   cached-edge : (cache : SatCache) → cachedEdgeOf s n l t m k x cache .status ≡ 0
   unfolding cachedEdgeOf edgeContactOf alongOf touchedOf
@@ -158,20 +164,26 @@ module _ (s : HullSize) (n : List Float) (l : List ℕ) (t : HullSize) (m : List
       → afterCached s n l t m k x cache cached .outcome .status ≡ firstGiven number (cond (cached .hit) 0 (fullMeets s n l t m k x))
   unfolding afterCached firstGiven
   after-cached cache cached number e =
-      answer-choice (eqb (cached .status) 0) _ _ _ (cached .status) (answer-choice (cached .hit) _ _ 0 _ refl (answer-status cache _ ∙ full-status)) refl
+      choice OfAnswer (eqb (cached .status) 0) _ refl
+      (λ h. choice OfAnswer (cached .hit) _ refl (λ q. refl) (λ q. answer-status cache _ ∙ full-status)) (λ h. refl)
       ∙ ap (λ (z : ℕ). cond (eqb z 0) (cond (cached .hit) 0 (fullMeets s n l t m k x)) z) e
 
   -- ---- the call
-  work-status : (cache : SatCache) → workedOf s n l t m k x cache .outcome .status ≡ workMeets s n l t m k x cache
-  unfolding workedOf workMeets firstGiven
-  work-status cache =
-      answer-choice (eqb (cache .kind) 2) _ _ _ _ (after-cached cache _ _ (cached-a cache))
-      (answer-choice (eqb (cache .kind) 3) _ _ _ _ (after-cached cache _ _ (cached-b cache))
-      (answer-choice (eqb (cache .kind) 4) _ _ _ _ (after-cached cache _ 0 (cached-edge cache))
-      (answer-status cache _ ∙ full-status)))
+  work-status : (cache : SatCache) → 0 < s .vertices → 0 < t .vertices → workedOf s n l t m k x cache .outcome .status ≡ workMeets s n l t m k x cache
+  unfolding workedOf workMeets cachedMeets hits firstGiven
+  work-status cache some-a some-b =
+      cases (eqb (cache .kind) 2) (λ p. rw p (after-cached cache _ _ (cached-a cache some-b)))
+      (λ p. cases (eqb (cache .kind) 3) (λ q. rw (p, q) (after-cached cache _ _ (cached-b cache some-a)))
+      (λ q. cases (eqb (cache .kind) 4) (λ z. rw (p, q, z) (after-cached cache _ 0 (cached-edge cache)))
+      (λ z. rw (p, q, z) (answer-status cache _ ∙ full-status))))
 
   pub call-status : (capacity : ℤ) (cache : SatCache) → collideOf s n l t m k x capacity cache .outcome .status ≡ numberOf s n l t m k x capacity cache
   unfolding collideOf numberOf firstGiven
   call-status capacity cache =
-      answer-choice (ltZ capacity (pos 4)) _ _ 0 _ refl (answer-choice (eqb (refusalOf s n l t m k x cache) 0) _ _ _ (refusalOf s n l t m k x cache)
-      (work-status cache) refl)
+      choice OfAnswer (ltZ capacity (pos 4)) _ refl (λ small. refl)
+      (λ wide. choice OfAnswer (eqb (refusalOf s n l t m k x cache) 0) _ refl
+      (λ p. let u = unrefused s n l t m k x cache (eqb-true _ _ p) in work-status cache (some-vertex (u .0)) (some-vertex (u .1)))
+      (λ p. refl))
+    where
+      some-vertex : {z : HullSize} {f : List Float} {g : List ℕ} → Accepted z f g → 0 < z .vertices
+      some-vertex a = omega (arith, a .links-fit .v-low)

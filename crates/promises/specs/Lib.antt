@@ -1,4 +1,6 @@
 pub mod Numbers
 pub mod Sources
+pub mod OneCall
 pub mod Separations
 pub mod Retired
+pub mod Incident

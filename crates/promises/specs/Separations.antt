@@ -2,7 +2,7 @@
 -- face always becomes the best. Show this for the four units": 1, 10, 100 and 1000 a metre, by which 4096 and 8192 are multiplied. Definitions only;
 -- proofs/Separations.antt shows it, and the axis search, whose answer has no case for a side without a face, rests on it.
 use Prim.Native.Nat.{ℕ, _<_}
-use mathlib.Core.Bool.{Bool, true, false}
+use mathlib.Core.Bool.{Bool, true}
 use mathlib.Core.List.{List}
 use mathlib.Core.Path.{_≡_}
 use lib.Dec.{T}
@@ -11,16 +11,16 @@ use lib.Ieee.Scale.{finite}
 use Rattle.bounds.specs.Squares.{squares3, squares4}
 use Rattle.vector.specs.declared.Transform.{Transform}
 use Rattle.vector.specs.Rounded.{_⊗_, float}
-use Rattle.vector.specs.Shape.{centerOf, extentsOf}
 use Rattle.rotation.specs.Rotation.{matrixOf, transposeOf}
 use Rattle.hull_links.specs.declared.HullSize.{HullSize}
 use Rattle.hull_links.specs.Links.{planesFrom, NumbersFit}
 use Rattle.hull_limits.specs.Measures.{inside, nearOne}
-use Rattle.hull.specs.Numbers.{numberAt, boxOf, planeAt}
+use Rattle.hull.specs.Numbers.{numberAt, planeAt}
 use Rattle.axis_best.specs.declared.Lead.{Lead}
 use Rattle.axis_best.specs.Leads.{noneOf, newBest, leadAfter}
 use Rattle.axis_faces.specs.declared.Face.{Face}
-use Rattle.axis_faces.specs.Faces.{faceOf, faceTakenOf}
+use Rattle.axis_faces.specs.declared.Side.{Side}
+use Rattle.axis_faces.specs.Faces.{faceTakenOf, faceOf}
 use Rattle.axis.specs.Search.{sideOfA, sideOfB}
 
 -- ---- the units, and the limits that go by them
@@ -55,17 +55,17 @@ pub record TransformInside (unit : Float) (x : Transform) : Type 0 where
 module _ (s : HullSize) (n : List Float) (t : HullSize) (m : List Float) (x : Transform) where
   -- face f of A against B's vertices, and face f of B against A's
   abbrev pub faceOfA : ℕ → Face
-  faceOfA = faceOf true (transposeOf (matrixOf (x .q))) (x .p) s n t m (centerOf (boxOf m)) (extentsOf (boxOf m))
+  faceOfA f = faceOf Side.A (transposeOf (matrixOf (x .q))) (x .p) t m (planeAt s n f)
 
   abbrev pub faceOfB : ℕ → Face
-  faceOfB = faceOf false (matrixOf (x .q)) (x .p) t m s n (centerOf (boxOf n)) (extentsOf (boxOf n))
+  faceOfB f = faceOf Side.B (matrixOf (x .q)) (x .p) s n (planeAt t m f)
 
   -- the best of the first i faces of A, and of B
   abbrev pub bestOfA : ℕ → Lead
-  bestOfA = leadAfter (λ f. faceTakenOf true (faceOfA f) f) noneOf
+  bestOfA = leadAfter (λ f. faceTakenOf Side.A (faceOfA f) f) noneOf
 
   abbrev pub bestOfB : ℕ → Lead
-  bestOfB = leadAfter (λ f. faceTakenOf false (faceOfB f) f) noneOf
+  bestOfB = leadAfter (λ f. faceTakenOf Side.B (faceOfB f) f) noneOf
 
   -- what the request asks for, and what comes of it
   pub record FacesFound : Type 0 where

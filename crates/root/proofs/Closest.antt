@@ -23,7 +23,7 @@ use Rattle.root.proofs.Values.{value, plain, unit-size}
 use Rattle.root.proofs.Meaning.{above, least, nearer-above, nearer-below}
 
 -- ---- the order of two values is that of their patterns
-units-mono : (y r : ℕ) → y ≤ r → units y ≤ units r
+pub units-mono : (y r : ℕ) → y ≤ r → units y ≤ units r
 units-mono y r h = elim (eq-or-lt-of-le h) [
   | inl e ↦ le-of-eq (ap units e)
   | inr l ↦
@@ -77,7 +77,7 @@ cancel : {a b a' b' : ℕ} (s t : ℕ) → 0 < t → a * s ≡ a' * t → b * s 
 cancel s t p e f h = lt-of-mul-lt-mul-right s (lt-of-le-of-lt (le-of-eq e) (lt-of-lt-of-le (mul-lt-mul-of-pos-right h p) (le-of-eq (sym f))))
 
 -- ---- the theorem, with x = m * up e / down e, r = p * up c / down c and y = n * up d / down d
-opened : (m : ℕ) (e : ℤ) (r : Float) → T (isRoot (fin false (suc m) e) r) → T (rootBits (suc m * up e * 2 ^ 298) (down e) (toBits binary32 r))
+pub opened : (m : ℕ) (e : ℤ) (r : Float) → T (isRoot (fin false (suc m) e) r) → T (rootBits (suc m * up e * 2 ^ 298) (down e) (toBits binary32 r))
 unfolding isRoot
 opened m e r t = t
 

@@ -8,3 +8,4 @@ pub mod Meaning
 pub mod Closest
 pub mod Unique
 pub mod Worked
+pub mod Monotone

@@ -1,10 +1,10 @@
 -- A pattern r that passes `rootBits` stands for the value nearest to the root: for any other pattern y, with R and Y for their units, the root is on
--- R's side of (R + Y) / 2. So at most one pattern passes. Assumes nothing.
-use mathlib.Core.Path.{_≡_, sym, ap, _∙_, subst, subst⁻¹}
+-- R's side of (R + Y) / 2. So a larger number has no smaller pattern, and at most one pattern passes. Assumes nothing.
+use mathlib.Core.Path.{_≡_, refl, sym, ap, _∙_, subst, subst⁻¹}
 use mathlib.Core.Logic.{_⊎_, inl, inr}
 use Prim.Native.Nat.{ℕ, suc, _+_, _*_, _^_, _≤_, _<_}
 use native.Mathlib.Nat.{le-trans, le-of-eq, le-of-lt, lt-of-lt-of-le, lt-of-le-of-lt, eq-or-lt-of-le, mul-assoc, mul-one, add-mul, mul-le-mul}
-use native.Mathlib.Nat.{mul-le-mul-left, mul-le-mul-right, mul-lt-mul-of-pos-right, mul-mul-mul-comm, pow-succ', add-comm}
+use native.Mathlib.Nat.{mul-le-mul-left, mul-le-mul-right, mul-lt-mul-of-pos-right, mul-mul-mul-comm, mul-right-comm, pow-succ', add-comm, le-antisymm}
 use native.Mathlib.Omega.{arith}
 use lib.Pow.{pow-pos, pow-mono}
 use Rattle.root.specs.Root.{sq, sig, place, units, lower, upper}
@@ -121,19 +121,22 @@ module _ (a c r : ℕ) (p : 0 < c) (t : Rooted a c r) where
       up : (q : ℕ) → 8388608 < q → 8388608 + 1 ≤ q
       up q h = omega arith
 
--- ---- so only one pattern is the root's
-pub one : (a c r s : ℕ) → 0 < c → Rooted a c r → Rooted a c s → r ≡ s
-one a c r s p f g = elim (split r s) [
-  | inl h ↦ absurd (clash r s f g h)
-  | inr h ↦ elim (eq-or-lt-of-le h) [ inl e ↦ sym e | inr l ↦ absurd (clash s r g f l) ]
+-- ---- so the pattern does not go down as a / c goes up, and only one pattern is the root's
+pub ordered : (a c b d r s : ℕ) → 0 < c → 0 < d → a * d ≤ b * c → Rooted a c r → Rooted b d s → r ≤ s
+ordered a c b d r s C D h f g = elim (split s r) [
+  | inl l ↦
+      let S = sq (units s + units r) in
+      let x : 4 * b * c < S * d * c = mul-lt-mul-of-pos-right (nearer-above b d s D g r l) C in
+      let y : S * c * d < 4 * a * d =
+      mul-lt-mul-of-pos-right (lt-of-le-of-lt (le-of-eq (ap (λ (n : ℕ). sq n * c) (add-comm (units s) (units r)))) (nearer-below a c r C f s l)) D in
+      absurd (clash (S * d * c) (S * c * d) (4 * a * d) (4 * b * c) (mul-right-comm S d c) x y
+      (le-trans (le-of-eq (mul-assoc 4 a d)) (le-trans (mul-le-mul-left 4 h) (le-of-eq (sym (mul-assoc 4 b c))))))
+  | inr l ↦ l
 ]
   where
-    clash : (r s : ℕ) → Rooted a c r → Rooted a c s → r < s → ⊥
-    clash r s f g h =
-        let x : 4 * a < sq (units r + units s) * c = nearer-above a c r p f s h in
-        let y : sq (units s + units r) * c < 4 * a = nearer-below a c s p g r h in
-        let e : sq (units r + units s) * c ≡ sq (units s + units r) * c = ap (λ (n : ℕ). sq n * c) (add-comm (units r) (units s)) in
-        not _ _ e x y
-      where
-        not : (m n : ℕ) → m ≡ n → 4 * a < m → n < 4 * a → ⊥
-        not m n e x y = omega arith
+    clash : (p q u v : ℕ) → p ≡ q → v < p → q < u → u ≤ v → ⊥
+    clash p q u v e x y z = omega arith
+
+pub one : (a c r s : ℕ) → 0 < c → Rooted a c r → Rooted a c s → r ≡ s
+one a c r s p f g = let same : a * c ≤ a * c = le-of-eq refl in
+    le-antisymm (ordered a c a c r s p p same f g) (ordered a c a c s r p p same g f)

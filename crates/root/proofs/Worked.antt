@@ -147,7 +147,7 @@ root-of (fin false zero e) f = unfold isRoot rootOf in tt
 root-of (fin true (suc m) e) f = unfold isRoot rootOf isNan in tt
 root-of (fin false (suc m) e) f = finite m e f
 
-root-fits : (x : Float) → T (fits binary32 x) → T (fits binary32 (rootOf x))
+pub root-fits : (x : Float) → T (fits binary32 x) → T (fits binary32 (rootOf x))
 unfolding rootOf
 root-fits nan f = nan-fits binary32
 root-fits (inf true) f = nan-fits binary32

@@ -1,14 +1,19 @@
 -- What a rotation makes of bounded numbers. Assumes nothing.
-use Prim.Native.Nat.{ℕ, suc, _+_}
-use lib.Dec.{T, leb}
+use Prim.Native.Nat.{ℕ, suc, _+_, _≤_}
+use mathlib.Core.Path.{_≡_, subst}
+use native.Mathlib.Nat.{le-trans}
+use native.Mathlib.Omega.{arith}
+use lib.Dec.{T, leb, leb→le, le→leb}
 use lib.Ieee.{Float, ofBits}
 use Rattle.bounds.specs.Bound.{Below}
 use Rattle.bounds.proofs.Laws.{constant, more, added, multiplied, subtracted, dot3}
 use Rattle.vector.specs.declared.Vec3.{Vec3}
 use Rattle.vector.specs.declared.Quat.{Quat}
 use Rattle.vector.specs.Rounded.{_⊕_, _⊖_, _⊗_, float}
+use Rattle.vector.specs.Arithmetic.{crossOf, mulSubOf}
 use Rattle.vector.specs.Bounded.{VecBelow}
-use Rattle.rotation.specs.Rotation.{Rows, matrixOf, transposeOf, mulMvOf}
+use Rattle.vector.proofs.Bounded.{more-below, cross-below, mul-add-below, mul-sub-below}
+use Rattle.rotation.specs.Rotation.{Rows, matrixOf, transposeOf, mulMvOf, invRotateOf}
 use Rattle.rotation.specs.Bounded.{RowsBelow}
 
 -- The numbers of a unit quaternion are at most 2, and those of its matrix at most 2 ^ 5.
@@ -53,3 +58,22 @@ mul-mv-below {j} {k} {m} {v} t p q = record { on-x = along (p .row0); on-y = alo
   where
     along : {r : Vec3} → VecBelow j r → Below (suc (suc (j + k))) (r .x ⊗ v .x ⊕ r .y ⊗ v .y ⊕ r .z ⊗ v .z)
     along r = dot3 t (r .on-x) (r .on-y) (r .on-z) (q .on-x) (q .on-y) (q .on-z)
+
+-- a vector turned back
+pub inv-rotate-below : {k : ℕ} {q : Quat} {v : Vec3} → T (leb (7 + k) 127) → VecBelow 1 (q .v) → Below 1 (q .s) → VecBelow k v
+    → VecBelow (7 + k) (invRotateOf q v)
+unfolding invRotateOf ofBits
+inv-rotate-below {k} {q} {v} t p w b =
+    let first : VecBelow (2 + k) (crossOf (q .v) v) = exactly (omega arith) (cross-below (room (suc (1 + k)) (omega arith)) p b) in
+    let second : VecBelow (3 + k) (mulSubOf (crossOf (q .v) v) (q .s) v) =
+    exactly (omega arith) (mul-sub-below (room (suc (2 + k)) (omega arith)) first (more 2 tt w) b) in
+    let third : VecBelow (5 + k) (crossOf (q .v) (mulSubOf (crossOf (q .v) v) (q .s) v)) =
+    exactly (omega arith) (cross-below (room (suc (1 + (3 + k))) (omega arith)) p second) in
+    exactly (omega arith)
+    (mul-add-below (room (suc (1 + (5 + k))) (omega arith)) (more-below (1 + (5 + k)) (le→leb k (1 + (5 + k)) (omega arith)) b) (constant 1 tt) third)
+  where
+    room : (i : ℕ) → i ≤ 7 + k → T (leb i 127)
+    room i h = le→leb i 127 (le-trans h (leb→le (7 + k) 127 t))
+
+    exactly : {i j : ℕ} {u : Vec3} → i ≡ j → VecBelow i u → VecBelow j u
+    exactly {i} {j} {u} e h = subst (λ (z : ℕ). VecBelow z u) e h

@@ -1,18 +1,22 @@
 -- `axis`: the two cases of the definition.
-use mathlib.Core.Bool.{true, false}
-use mathlib.Core.Path.{_≡_}
+use Rattle.axis_faces.specs.Faces.{faceAxisOf}
+use borrow.Author.Needs.{needs}
 use Rattle.axis_faces.proofs.axis.Statement.{statement}
 use Rattle.axis_faces.proofs.axis.Tie as tie
 
+enum-told : tie.Need-enum-told
+enum-told c = search needs
+
+enum-told-2 : tie.Need-enum-told-2
+enum-told-2 c = search needs
+
 returns : tie.Need-returns
-returns c =
-    let of-a : c .before .args .own ≡ true = c .if1 .taken in
-    simp of-a
+unfolding faceAxisOf
+returns c = search needs
 
 returns-2 : tie.Need-returns-2
-returns-2 c =
-    let of-b : c .before .args .own ≡ false = c .if1 .left in
-    simp of-b
+unfolding faceAxisOf
+returns-2 c = search needs
 
 pub axis-spec : {M : Type 1} → statement M
-axis-spec = tie.close (tie.spec returns returns-2)
+axis-spec = tie.close (tie.spec enum-told enum-told-2 returns returns-2)

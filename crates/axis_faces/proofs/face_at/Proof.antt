@@ -32,9 +32,12 @@ separation-requires c κs = search needs
 
 returns : tie.Need-returns
 returns c =
-    let a = c .before .before .before .before .before .before .before .before .before .before .before .args in
+    let start = c .before .before .before .before .before .before .before .before .before .before .before in
+    let a = start .args in
+    let R = start .pre .0 in
     let vertex = c .before .before .before .before .get-support-wide .ensures in (
-      face-made (a .own) (a .turn) (a .position) (a .size) (a .numbers .now) (a .other) (a .others .now) (a .center) (a .extents) _ _ _ _ _ _ _ _ _
+      face-made (a .side) (a .turn) (a .position) (a .size) (a .numbers .now) (a .other) (a .others .now) _ _ _ _ _ _ _ _ _ _ _
+          (R .center-is) (R .extents-is)
           (c .before .before .before .before .before .before .before .before .plane-at .ensures)
           (c .before .before .before .before .before .before .direction .ensures) (c .before .before .before .before .before .bias .ensures) (vertex .0)
           (c .before .before .before .vertex-at .ensures) (c .before .before .exact .ensures) (c .before .axis .ensures) (c .separation .ensures),

@@ -1,5 +1,4 @@
--- The box's corners are coordinates, so its middle and half-sizes are bounded.
-use Rattle.axis_faces.specs.Faces.{faceSearchOf}
+-- The box's middle and half-sizes are worked out once, for all faces.
 use Rattle.axis_faces.proofs.Facing.{faces-ready}
 use borrow.Author.Needs.{needs}
 use Rattle.axis_faces.proofs.search_faces.Statement.{statement}
@@ -19,13 +18,7 @@ search-with-requires c κs = faces-ready (c .before .before .before .before .bef
     (c .before .aabb-center .ensures) (c .aabb-extents .ensures)
 
 returns : tie.Need-returns
-unfolding faceSearchOf
-returns c = simp (
-  c .search-with .ensures,
-  c .before .aabb-extents .ensures,
-  c .before .before .aabb-center .ensures,
-  c .before .before .before .box-of .ensures,
-)
+returns c = search needs
 
 pub search-faces-spec : {M : Type 1} → statement M
 search-faces-spec =

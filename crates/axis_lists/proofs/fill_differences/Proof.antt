@@ -1,7 +1,7 @@
 -- `fill_differences`: a filling loop; each end of an edge is a vertex.
 use Rattle.axis_edges.proofs.Ready.{origin-below}
 use Rattle.axis_lists.proofs.Fills.{begins, goes-on, ends}
-use Rattle.axis_lists.specs.Fills.{Filled, differenceAt}
+use Rattle.axis_lists.specs.inner.Fills.{Filled, differenceAt}
 use native.Mathlib.Omega.{arith}
 use Prim.Native.Nat.{_≤_, _<_, _-_}
 use borrow.Author.Needs.{needs}

@@ -1,6 +1,6 @@
 -- `fill_normals`: a filling loop.
 use Rattle.axis_lists.proofs.Fills.{begins, goes-on, ends}
-use Rattle.axis_lists.specs.Fills.{Filled, normalAt}
+use Rattle.axis_lists.specs.inner.Fills.{Filled, normalAt}
 use native.Mathlib.Omega.{arith}
 use Prim.Native.Nat.{_≤_, _-_}
 use mathlib.Core.Path.{refl}

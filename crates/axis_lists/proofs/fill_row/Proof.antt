@@ -1,7 +1,7 @@
 -- `fill_row`: a filling loop.
 use Rattle.axis_lists.proofs.Fills.{begins, goes-on, ends}
-use Rattle.axis_lists.specs.Fills.{Filled, dotAt}
-use Rattle.axis_lists.specs.Lists.{vectorIn}
+use Rattle.axis_lists.specs.inner.Fills.{Filled, dotAt}
+use Rattle.axis_lists.specs.inner.Lists.{vectorIn}
 use Rattle.axis_edges.specs.Edges.{dotRight}
 use native.Mathlib.Omega.{arith}
 use Prim.Native.Nat.{_≤_, _-_}

@@ -1,5 +1,5 @@
 -- `vector_in`: the code is the definition's own expression.
-use Rattle.axis_lists.specs.Lists.{vectorIn}
+use Rattle.axis_lists.specs.inner.Lists.{vectorIn}
 use mathlib.Core.Path.{refl}
 use borrow.Author.Needs.{needs}
 use Rattle.axis_lists.proofs.vector_in.Statement.{statement}

@@ -1,5 +1,5 @@
 -- The four vectors of the lists that the links name.
-use Rattle.axis_pairs.specs.Pairs.{edgeIn}
+use Rattle.axis_pairs.specs.inner.Pairs.{edgeIn}
 use Rattle.axis_row.proofs.Reach.{face-low, origin-low}
 use native.Mathlib.Omega.{arith}
 use Prim.Native.Nat.{_+_, _*_}

@@ -1,6 +1,6 @@
 -- The loop keeps `Filling`: the rows of the faces so far stand in the table.
 use Rattle.axis_pairs.proofs.Tables.{Filling, begins, room, goes-on, ends}
-use Rattle.axis_lists.specs.Lists.{vectorIn}
+use Rattle.axis_lists.specs.inner.Lists.{vectorIn}
 use native.Mathlib.Nat.{le-refl, le-of-lt, mul-le-mul}
 use lib.ListN.{length}
 use native.Mathlib.Omega.{arith}

@@ -1,7 +1,7 @@
 -- The loop keeps the lead of the search so far, and the lengths of what is lent to a row.
 use Rattle.axis_pairs.proofs.Tables.{row0-of, row1-of}
 use Rattle.axis_pairs.proofs.Turned.{row-turn}
-use Rattle.axis_pairs.specs.Pairs.{edgeIn}
+use Rattle.axis_pairs.specs.inner.Pairs.{edgeIn}
 use Rattle.axis_edges.specs.Edges.{edgeOfA, rowPairs}
 use Rattle.axis_pairs.specs.All.{allPairs}
 use Rattle.hull_links.specs.Links.{face}

@@ -1,6 +1,6 @@
 -- The comparison as it is made.
 use mathlib.Core.Path.{refl}
-use Rattle.axis_row.specs.Marks.{atLeastEps}
+use Rattle.axis_row.specs.inner.Marks.{atLeastEps}
 use lib.Ieee.{le}
 use Rattle.axis_row.proofs.fails.Statement.{statement}
 use Rattle.axis_row.proofs.fails.Tie as tie

@@ -2,7 +2,7 @@
 use borrow.Author.Needs.{needs}
 use Rattle.axis_row.proofs.Marking.{adds}
 use Rattle.axis_row.proofs.Sifting.{Sifted, up-begins, up-goes-on, up-ends}
-use Rattle.axis_row.specs.Marks.{unmarked, upTo}
+use Rattle.axis_row.specs.inner.Marks.{unmarked, upTo}
 use native.Mathlib.Omega.{arith}
 use Prim.Native.Nat.{ℕ, _+_, _≤_, _-_}
 use mathlib.Core.Path.{ap}

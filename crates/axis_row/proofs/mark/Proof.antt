@@ -2,7 +2,7 @@
 use borrow.Author.Needs.{needs}
 use Rattle.axis_row.proofs.Marking.{begins, goes-on, ends, bounded}
 use mathlib.Core.Path.{refl}
-use Rattle.axis_row.specs.Marks.{failsFirst, Marked}
+use Rattle.axis_row.specs.inner.Marks.{failsFirst, Marked}
 use native.Mathlib.Omega.{arith}
 use Prim.Native.Nat.{_≤_, _-_}
 use Rattle.axis_row.proofs.mark.Statement.{statement}

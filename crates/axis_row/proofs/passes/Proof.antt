@@ -1,5 +1,5 @@
 -- `passes`: the test picks the definition's case.
-use Rattle.axis_row.specs.Marks.{atLeastEps}
+use Rattle.axis_row.specs.inner.Marks.{atLeastEps}
 use mathlib.Core.Path.{_≡_, sym, _∙_}
 use native.Mathlib.Omega.{arith}
 use mathlib.Core.Bool.{true, false}

@@ -1,5 +1,5 @@
 -- The loop keeps the lead of the search so far.
-use Rattle.axis_row.specs.Rows.{triedAt}
+use Rattle.axis_row.specs.inner.Rows.{triedAt}
 use Rattle.axis_row.proofs.Reach.{in-row}
 use Rattle.axis_row.proofs.Rows.{tries}
 use Rattle.axis_edges.specs.Edges.{edgeOfA}

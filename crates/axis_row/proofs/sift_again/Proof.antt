@@ -1,7 +1,7 @@
 -- The loop keeps `Sifted` of the part of the list that is behind it.
 use Rattle.axis_row.proofs.Reach.{face-low, in-row}
 use Rattle.axis_row.proofs.Sifting.{Sifted, list-begins, list-goes-on, list-ends}
-use Rattle.axis_row.specs.Sift.{failsLater}
+use Rattle.axis_row.specs.inner.Sift.{failsLater}
 use borrow.Author.Needs.{needs}
 use native.Mathlib.Omega.{arith}
 use lib.ListN.{take, getD}

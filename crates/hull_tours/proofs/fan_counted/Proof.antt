@@ -5,7 +5,7 @@ use native.Mathlib.Omega.{arith}
 use borrow.Author.Needs.{needs}
 use Rattle.hull_links.specs.Links.{next, turn}
 use Rattle.hull_links.proofs.Orbits.{Going, sets-out, goes-on, arrives, spoils}
-use Rattle.hull_tours.specs.Found.{OnVertex}
+use Rattle.hull_tours.specs.inner.Found.{OnVertex}
 use Rattle.hull_tours.proofs.Lengths.{counted-length, no-count, counted-on, on-vertex}
 use Rattle.hull_tours.proofs.Accept.{ringed-next, mate-lt, under-way}
 use Rattle.hull_tours.proofs.fan_counted.Statement.{statement}

@@ -6,7 +6,7 @@ use borrow.Author.Needs.{needs}
 use borrow.Author.Tests.{eqb-true, eq-eqb}
 use Rattle.hull_links.specs.Links.{turn, vertexEdge}
 use Rattle.hull_links.proofs.Tours.{Touring, sets-off, one-walk, all-walks, nothing-left}
-use Rattle.hull_tours.specs.Found.{OnVertex}
+use Rattle.hull_tours.specs.inner.Found.{OnVertex}
 use Rattle.hull_tours.proofs.Lengths.{long-enough, well-started}
 use Rattle.hull_tours.proofs.fans_toured.Statement.{statement}
 use Rattle.hull_tours.proofs.fans_toured.Tie as tie

@@ -5,7 +5,7 @@ use native.Mathlib.Omega.{arith}
 use borrow.Author.Needs.{needs}
 use Rattle.hull_links.specs.Links.{next}
 use Rattle.hull_links.proofs.Orbits.{Going, sets-out, goes-on, arrives, outlasts, spoils}
-use Rattle.hull_tours.specs.Found.{OnFace}
+use Rattle.hull_tours.specs.inner.Found.{OnFace}
 use Rattle.hull_tours.proofs.Lengths.{is-length, no-length, on-face}
 use Rattle.hull_tours.proofs.ring_length.Statement.{statement}
 use Rattle.hull_tours.proofs.ring_length.Tie as tie

@@ -7,7 +7,7 @@ use borrow.Author.Needs.{needs}
 use borrow.Author.Tests.{eqb-true, eq-eqb}
 use Rattle.hull_links.specs.Links.{next, faceEdge}
 use Rattle.hull_links.proofs.Tours.{Touring, sets-off, one-walk, all-walks, enough, nothing-left}
-use Rattle.hull_tours.specs.Found.{OnFace}
+use Rattle.hull_tours.specs.inner.Found.{OnFace}
 use Rattle.hull_tours.proofs.Lengths.{long-enough, well-started}
 use Rattle.hull_tours.proofs.rings_toured.Statement.{statement}
 use Rattle.hull_tours.proofs.rings_toured.Tie as tie

@@ -3,7 +3,7 @@ use mathlib.Core.Path.{_≡_}
 use mathlib.Core.Bool.{true, false}
 use lib.Dec.{eqb}
 use borrow.Author.Tests.{eq-eqb, ne-eqb}
-use Rattle.contacts.specs.Carried.{carriedContact}
+use Rattle.contacts.specs.inner.Carried.{carriedContact}
 use borrow.Author.Needs.{needs}
 use Rattle.contacts.proofs.carried.carried.Statement.{statement}
 use Rattle.contacts.proofs.carried.carried.Tie as tie

@@ -3,7 +3,7 @@ use mathlib.Core.Path.{_≡_}
 use mathlib.Core.Bool.{true, false}
 use lib.Dec.{ltb}
 use borrow.Author.Tests.{lt-ltb, le-ltb}
-use Rattle.contacts.specs.Carried.{carriedPlace}
+use Rattle.contacts.specs.inner.Carried.{carriedPlace}
 use borrow.Author.Needs.{needs}
 use Rattle.contacts.proofs.carried.carried_place.Statement.{statement}
 use Rattle.contacts.proofs.carried.carried_place.Tie as tie

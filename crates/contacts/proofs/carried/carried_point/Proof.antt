@@ -1,5 +1,5 @@
 -- `carried_point`: each call answers its own definition, and together they are this one.
-use Rattle.contacts.specs.Carried.{carriedPoint}
+use Rattle.contacts.specs.inner.Carried.{carriedPoint}
 use borrow.Author.Needs.{needs}
 use Rattle.contacts.proofs.carried.carried_point.Statement.{statement}
 use Rattle.contacts.proofs.carried.carried_point.Tie as tie

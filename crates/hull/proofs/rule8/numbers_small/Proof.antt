@@ -6,7 +6,7 @@ use borrow.Author.Needs.{needs}
 use Rattle.hull_links.specs.Tests.{all}
 use Rattle.hull_links.proofs.Tests.{all-none, all-and, all-end}
 use Rattle.hull.specs.Rule8.{smallAt}
-use Rattle.hull.specs.Passes.{smallFrom}
+use Rattle.hull.specs.inner.Passes.{smallFrom}
 use Rattle.hull.proofs.rule8.numbers_small.Statement.{statement}
 use Rattle.hull.proofs.rule8.numbers_small.Tie as tie
 

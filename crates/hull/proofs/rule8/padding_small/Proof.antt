@@ -1,6 +1,6 @@
 -- `padding_small`: each call answers its own definition, and together they are this one.
 use borrow.Author.Needs.{needs}
-use Rattle.hull.specs.Passes.{paddingSmall}
+use Rattle.hull.specs.inner.Passes.{paddingSmall}
 use Rattle.hull_limits.proofs.Joined.{and3}
 use Rattle.hull.proofs.rule8.padding_small.Statement.{statement}
 use Rattle.hull.proofs.rule8.padding_small.Tie as tie

@@ -3,7 +3,7 @@ use mathlib.Core.Path.{sym, _∙_}
 use borrow.Author.Tests.{not-true, not-false}
 use borrow.Author.Needs.{needs}
 use Rattle.hull_links.proofs.Tests.{passes, breaks, none-broken}
-use Rattle.hull_rules.specs.Named.{brokenBeforeWalks}
+use Rattle.hull_rules.specs.inner.Named.{brokenBeforeWalks}
 use Rattle.hull_rules.proofs.tests.broken_before_walks.Statement.{statement}
 use Rattle.hull_rules.proofs.tests.broken_before_walks.Tie as tie
 

@@ -9,7 +9,7 @@ use Rattle.hull_links.specs.Walks.{firsts}
 use Rattle.hull_links.specs.Links.{next}
 use Rattle.hull_links.specs.Rules.{newNext, h5}
 use Rattle.hull_links.proofs.Tests.{all-none, all-more, all-done, all-fails}
-use Rattle.hull_rules.specs.Marks.{marked, clear}
+use Rattle.hull_rules.specs.inner.Marks.{marked, clear}
 use Rattle.hull_rules.proofs.Marks.{none-marked, one-marked, next-small, not-new, is-new}
 use Rattle.hull_rules.proofs.tests.nexts_right.Statement.{statement}
 use Rattle.hull_rules.proofs.tests.nexts_right.Tie as tie

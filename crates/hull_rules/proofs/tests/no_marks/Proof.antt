@@ -1,6 +1,6 @@
 -- 256 zeros.
 use mathlib.Core.Path.{refl}
-use Rattle.hull_rules.specs.Marks.{clear}
+use Rattle.hull_rules.specs.inner.Marks.{clear}
 use Rattle.hull_rules.proofs.tests.no_marks.Statement.{statement}
 use Rattle.hull_rules.proofs.tests.no_marks.Tie as tie
 

@@ -8,7 +8,7 @@ use borrow.Author.Needs.{needs}
 use borrow.Author.Tests.{lt-ltb, le-ltb}
 use Rattle.hull_links.specs.Tests.{all}
 use Rattle.hull_links.proofs.Tests.{all-none, all-more, all-done, all-fails}
-use Rattle.hull_rules.specs.Named.{storedInRange}
+use Rattle.hull_rules.specs.inner.Named.{storedInRange}
 use Rattle.hull_rules.proofs.tests.stored_in_range.Statement.{statement}
 use Rattle.hull_rules.proofs.tests.stored_in_range.Tie as tie
 

@@ -1,4 +1,4 @@
--- What the tests that name a rule answer. Definitions only; no promise is about these.
+-- Inner: what the tests that name a rule answer. Definitions only.
 use mathlib.Core.Bool.{Bool}
 use mathlib.Core.List.{List, [], _∷_}
 use Prim.Native.Nat.{ℕ, _+_}

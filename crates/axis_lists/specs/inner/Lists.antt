@@ -1,4 +1,4 @@
--- Vectors in lists: three lists of 128 numbers in one, and a table of dots. Definitions only.
+-- Inner: vectors in lists: three lists of 128 numbers in one, and a table of dots. Definitions only.
 use Prim.Native.Nat.{ℕ, _+_, _<_, _≤_}
 use mathlib.Core.List.{List}
 use mathlib.Core.Path.{_≡_}

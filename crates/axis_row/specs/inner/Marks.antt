@@ -1,4 +1,4 @@
--- The numbers of A's edges that pass the first test of signs against one edge of B, in their order. Definitions only.
+-- Inner: how one edge of B is scanned. The numbers of A's edges that pass the first test of signs against it, in their order. Definitions only.
 use Prim.Native.Nat.{ℕ, zero, suc, _+_, _<_}
 use mathlib.Core.Bool.{Bool, cond}
 use mathlib.Core.List.{List, [], _∷_, _++_}

@@ -1,4 +1,5 @@
--- One edge of B against the edges of A that have passed: what is tried, and what the scan asks for. Definitions only.
+-- Inner: what the scan of one edge of B asks for, and what it tries of the edges of A that have passed. Definitions only; what it answers is
+-- `rowPairs`, in the specs of `axis_edges`.
 use Prim.Native.Nat.{ℕ, _+_, _*_, _<_, _≤_}
 use mathlib.Core.Bool.{false}
 use mathlib.Core.List.{List}
@@ -12,8 +13,8 @@ use Rattle.axis_best.specs.declared.Lead.{Lead}
 use Rattle.axis_edges.specs.declared.EdgeA.{EdgeA}
 use Rattle.axis_edges.specs.declared.EdgeB.{EdgeB}
 use Rattle.axis_edges.specs.Edges.{edgeOfA, triedOf}
-use Rattle.axis_edges.specs.Ready.{EdgesIn}
-use Rattle.axis_lists.specs.Lists.{Three, Row}
+use Rattle.axis_edges.specs.inner.Ready.{EdgesIn}
+use Rattle.axis_lists.specs.inner.Lists.{Three, Row}
 
 -- edge i of A, which has passed, against edge j of B; the dots of B's two normals stand in the table from p and from q on
 unfoldable pub triedAt : List Float → ℕ → ℕ → (ℕ → EdgeA) → EdgeB → ℕ → ℕ → Lead → Lead

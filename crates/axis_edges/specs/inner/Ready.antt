@@ -1,4 +1,4 @@
--- What the edge phase asks for: links in range. It asks no bound of any float. Definitions only.
+-- Inner: what the edge phase asks for, links in range. It asks no bound of any float. Definitions only.
 use Prim.Native.Nat.{ℕ, _<_}
 use mathlib.Core.List.{List}
 use Rattle.hull_links.specs.declared.HullSize.{HullSize}

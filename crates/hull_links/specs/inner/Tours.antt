@@ -1,5 +1,5 @@
--- What a walk that came back has found, and a tour of walks that together are as long as there are numbers. Definitions only.
--- No promise is about these: they are how the functions that decide the rules tell each other what they saw.
+-- Inner: what a walk that came back has found, and a tour of walks that together are as long as there are numbers: how the functions that decide the
+-- rules tell each other what they saw. Definitions only.
 use mathlib.Core.Path.{_≡_}
 use Prim.Native.Nat.{ℕ, _≤_, _<_}
 use lib.ListN.{length}

@@ -1,4 +1,4 @@
--- What the edge phase keeps in its lists, and what it asks for at each stage. Definitions only; what it finds is in the specs of `axis_edges`.
+-- Inner: what the edge phase keeps in its lists, and what it asks for at each stage. Definitions only; what it finds is `allPairs`, in specs/All.antt.
 use Prim.Native.Nat.{ℕ, _+_, _*_, _<_, _≤_}
 use mathlib.Core.List.{List}
 use mathlib.Core.Path.{_≡_}
@@ -10,8 +10,8 @@ use Rattle.hull.specs.Numbers.{planeAt}
 use Rattle.vector.specs.declared.Vec3.{Vec3}
 use Rattle.axis_edges.specs.declared.EdgeB.{EdgeB}
 use Rattle.axis_edges.specs.Edges.{differenceOf}
-use Rattle.axis_edges.specs.Ready.{EdgesIn}
-use Rattle.axis_lists.specs.Lists.{vectorIn, Three, Row}
+use Rattle.axis_edges.specs.inner.Ready.{EdgesIn}
+use Rattle.axis_lists.specs.inner.Lists.{vectorIn, Three, Row}
 
 -- edge j of B, its normals and vertices read from lists that have them in A's frame
 unfoldable pub edgeIn : List Float → List Float → HullSize → List ℕ → ℕ → EdgeB

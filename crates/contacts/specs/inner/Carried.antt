@@ -1,4 +1,4 @@
--- A contact carried from B's frame into A's place by place, as the code does it; crates/contacts/proofs/Turned.antt shows that this is `contactOnB`.
+-- Inner: a contact carried from B's frame into A's place by place, as the code does it; crates/contacts/proofs/Turned.antt shows that this is `contactOnB`.
 -- Definitions only.
 use Prim.Native.Nat.{ℕ}
 use mathlib.Core.Bool.{cond}

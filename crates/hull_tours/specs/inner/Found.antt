@@ -1,11 +1,11 @@
--- What the two tours of a hull find, and what one walk of them answers. Definitions only.
--- No promise is about these: they are how the functions that decide the rules tell each other what they saw.
+-- Inner: what the two tours of a hull find, and what one walk of them answers: how the functions that decide the rules tell each other what they saw.
+-- Definitions only.
 use mathlib.Core.List.{List}
 use mathlib.Core.Path.{_≡_}
 use Prim.Native.Nat.{ℕ, _≤_, _<_}
 use lib.Bits.{bitXor}
 use Rattle.hull_links.specs.declared.HullSize.{HullSize}
-use Rattle.hull_links.specs.Tours.{Walk, Toured}
+use Rattle.hull_links.specs.inner.Tours.{Walk, Toured}
 use Rattle.hull_links.specs.Links.{next, twin, origin, face, vertexEdge, faceEdge, turn}
 
 -- r is the length of the walk from s; 0 where there is none of at most fuel steps

@@ -1,4 +1,4 @@
--- What two passes of the code over the numbers answer. Definitions only; no rule is about these.
+-- Inner: what two passes of the code over the numbers answer. Definitions only.
 use mathlib.Core.Bool.{Bool}
 use mathlib.Core.List.{List}
 use Prim.Native.Nat.{ℕ, _+_, _-_, _*_}

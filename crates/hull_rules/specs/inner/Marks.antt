@@ -1,4 +1,4 @@
--- Marks, a byte a half-edge: 1 at the numbers of a list and as it was elsewhere. Definitions only.
+-- Inner: marks, a byte a half-edge: 1 at the numbers of a list and as it was elsewhere. Definitions only.
 use mathlib.Core.List.{List, [], _∷_}
 use Prim.Native.Nat.{ℕ}
 use lib.ListN.{set, replicate}

@@ -1,4 +1,4 @@
--- A stretch of a list filled from a function, and what the five loops put there. Definitions only.
+-- Inner: a stretch of a list filled from a function, and what the five loops put there. Definitions only.
 use Prim.Native.Nat.{ℕ, _+_, _*_, _<_}
 use mathlib.Core.List.{List}
 use mathlib.Core.Path.{_≡_}

@@ -1,0 +1,157 @@
+//! Probes alone of what is exported require something of their callers. Each call here breaks one requirement by as little
+//! as it can be broken, and panics before the library is called; the call beside it keeps to all of them.
+
+use std::panic::{catch_unwind, AssertUnwindSafe};
+
+use contact::{HullBuilder, OwnedHull};
+use probes::*;
+
+const UP: Vec3 = Vec3 {
+    x: 0.0,
+    y: 0.0,
+    z: 1.0,
+};
+
+const FLOOR: Plane = Plane {
+    normal: UP,
+    offset: 0.0,
+};
+
+fn log() -> OwnedHull {
+    HullBuilder::log(6, 0.2, 0.15, 3.0).build().expect("a log")
+}
+
+fn accepted(log: &OwnedHull) -> Accepted<'_> {
+    Accepted::new(log.numbers(), log.links(), log.size()).expect("an accepted log")
+}
+
+fn at_rest(x: f32) -> Transform {
+    Transform {
+        p: Vec3 { x, ..UP },
+        q: Quat {
+            v: Vec3 {
+                x: 0.0,
+                y: 0.0,
+                z: 0.0,
+            },
+            s: 1.0,
+        },
+    }
+}
+
+/// So many corners, which `Polygon::new` would not give where they are more than 64.
+fn corners(count: usize) -> Polygon {
+    Polygon {
+        count,
+        ..Polygon::new(&[])
+    }
+}
+
+fn lanes(w: f32) -> FloatW {
+    FloatW {
+        x: 1.0,
+        y: 1.0,
+        z: 1.0,
+        w,
+    }
+}
+
+fn keeps<T>(what: &str, call: impl FnOnce() -> T) {
+    assert!(
+        catch_unwind(AssertUnwindSafe(call)).is_ok(),
+        "{what}: a call that keeps to what is required panics"
+    );
+}
+
+fn breaks<T>(what: &str, call: impl FnOnce() -> T) {
+    assert!(
+        catch_unwind(AssertUnwindSafe(call)).is_err(),
+        "{what}: a call that breaks what is required reaches the library"
+    );
+}
+
+#[test]
+fn lists_hold_the_vertices() {
+    let (long, short) = ([0.0; 4], [0.0; 3]);
+    keeps("four", || support_vertex(&long, &long, &long, 4, UP));
+    breaks("none", || support_vertex(&long, &long, &long, 0, UP));
+    breaks("x", || support_vertex(&short, &long, &long, 4, UP));
+    breaks("y", || support_vertex(&long, &short, &long, 4, UP));
+    breaks("z", || support_vertex(&long, &long, &short, 4, UP));
+}
+
+#[test]
+fn lanes_are_finite_and_numbers_below_128() {
+    keeps("124 to 127", || embed_index_w(lanes(1.0), 124));
+    breaks("128", || embed_index_w(lanes(1.0), 125));
+    breaks("infinite", || embed_index_w(lanes(f32::INFINITY), 0));
+    breaks("NaN", || embed_index_w(lanes(f32::NAN), 0));
+    keeps("finite", || min_index_w(lanes(1.0)));
+    breaks("NaN", || min_index_w(lanes(f32::NAN)));
+}
+
+#[test]
+fn polygons_have_1_to_64_corners() {
+    keeps("1", || clip_polygon(&corners(1), FLOOR, 0, FLOOR));
+    keeps("64", || clip_polygon(&corners(64), FLOOR, 0, FLOOR));
+    breaks("0", || clip_polygon(&corners(0), FLOOR, 0, FLOOR));
+    breaks("65", || clip_polygon(&corners(65), FLOOR, 0, FLOOR));
+    keeps("images of 64", || images(&corners(64), UP));
+    breaks("images of 65", || images(&corners(65), UP));
+    keeps("least of 64", || least_separation(&corners(64)));
+    breaks("least of 65", || least_separation(&corners(65)));
+    keeps("picks of 64", || {
+        reduce_manifold_points(&corners(64), UP, UP)
+    });
+    breaks("picks of 65", || {
+        reduce_manifold_points(&corners(65), UP, UP)
+    });
+    keeps("rounds", || reduce_rounds(&corners(64), UP, UP, 1));
+    breaks("rounds of 65", || reduce_rounds(&corners(65), UP, UP, 1));
+    breaks("too many rounds", || {
+        reduce_rounds(&corners(64), UP, UP, MOST_ROUNDS + 1)
+    });
+}
+
+#[test]
+fn hulls_are_accepted_and_numbers_theirs() {
+    let owned = log();
+    let (hull, size) = (accepted(&owned), owned.size());
+    assert!(
+        Accepted::new(&owned.numbers()[1..], owned.links(), size).is_none(),
+        "a hull that breaks H1 is taken for an accepted one"
+    );
+    keeps("last vertex", || {
+        find_incident_face(hull, UP, size.vertices - 1)
+    });
+    breaks("no such vertex", || {
+        find_incident_face(hull, UP, size.vertices)
+    });
+    keeps("last face", || {
+        build_polygon(hull, at_rest(0.0), size.faces - 1, FLOOR)
+    });
+    breaks("no such face", || {
+        build_polygon(hull, at_rest(0.0), size.faces, FLOOR)
+    });
+    keeps("last of both", || {
+        candidates(hull, hull, at_rest(0.0), size.faces - 1, size.vertices - 1)
+    });
+    breaks("no such face of A", || {
+        candidates(hull, hull, at_rest(0.0), size.faces, 0)
+    });
+    breaks("no such vertex of B", || {
+        candidates(hull, hull, at_rest(0.0), 0, size.vertices)
+    });
+}
+
+#[test]
+fn transforms_are_accepted() {
+    let owned = log();
+    let hull = accepted(&owned);
+    keeps("4096", || {
+        compute_separating_axis(hull, hull, Placed::new(at_rest(4096.0)))
+    });
+    breaks("beyond 4096", || {
+        compute_separating_axis(hull, hull, Placed::new(at_rest(4096.0f32.next_up())))
+    });
+}
