@@ -1,6 +1,6 @@
 -- H8 is what the code tests: what is inside a small box is small, and what passes the other tests is finite. Assumes nothing.
-use mathlib.Core.Path.{_≡_, refl, sym, ap, ap₂, _∙_, subst}
-use mathlib.Core.Bool.{Bool, true, false, not, _&&_, false≢true}
+use mathlib.Core.Path.{_≡_, refl, sym, ap, _∙_, subst}
+use mathlib.Core.Bool.{Bool, true, false, not, false≢true}
 use mathlib.Core.List.{List}
 use Prim.Native.Nat.{ℕ, zero, suc, _+_, _-_, _*_, _/_, _%_, _≤_, _<_}
 use native.Mathlib.Omega.{arith}
@@ -11,11 +11,11 @@ use borrow.Author.Tests.{ltb-true, ltb-false, not-true}
 use Rattle.bounds.specs.Bound.{Below}
 use Rattle.bounds.proofs.Laws.{more}
 use Rattle.hull_links.specs.declared.HullSize.{HullSize}
-use Rattle.hull_links.specs.Tests.{_&_, all}
+use Rattle.hull_links.specs.Tests.{all}
 use Rattle.hull_links.specs.Links.{padded, planesFrom, origin, NumbersFit}
 use Rattle.hull_links.specs.Rules.{h2}
 use Rattle.hull_links.proofs.Facts.{edge-in}
-use Rattle.hull_links.proofs.Tests.{cases, and-left, and-right, and-intro, and-is, all-at, all-intro, same-test}
+use Rattle.hull_links.proofs.Tests.{cases, and-left, and-right, and-intro, all-at, all-intro, same-test}
 use Rattle.vector.specs.declared.Plane.{Plane}
 use Rattle.vector.specs.Bounded.{VecBelow}
 use Rattle.hull.specs.Numbers.{numberAt, boxOf, vertexAt, planeAt}

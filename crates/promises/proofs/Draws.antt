@@ -15,14 +15,14 @@ use Rattle.vector.specs.declared.Vec3.{Vec3}
 use Rattle.vector.specs.declared.Transform.{Transform}
 use Rattle.vector.specs.Rounded.{_⊖_, float}
 use Rattle.vector.specs.Scalar.{absOf}
-use Rattle.vector.specs.Arithmetic.{negOf, subOf, dotOf}
+use Rattle.vector.specs.Arithmetic.{negOf}
 use Rattle.vector.specs.Awaited.{arbitraryPerpOf}
 use Rattle.rotation.specs.Rotation.{matrixOf, mulMvOf, invertOf}
 use Rattle.manifold.specs.declared.ClipVertex.{ClipVertex}
 use Rattle.manifold.specs.declared.SatCache.{SatCache}
 use Rattle.manifold.specs.declared.Contact.{Contact}
 use Rattle.manifold.specs.declared.Answer.{Answer}
-use Rattle.manifold.specs.Limits.{slop, speculative}
+use Rattle.manifold.specs.Limits.{slop}
 use Rattle.manifold.specs.Records.{emptyContact, pastVertex}
 use Rattle.hull_links.specs.declared.HullSize.{HullSize}
 use Rattle.hull_links.proofs.Tests.{cases}
@@ -44,8 +44,8 @@ use Rattle.collide_outcome.specs.Served.{nearOf, servedOf, hitWith, noHit}
 use Rattle.collide_outcome.specs.Answers.{answerOf}
 use Rattle.contacts.specs.Faces.{pointsFrom, carriedOf, contactOnA, contactOnB, onFace, faceAOf, faceBOf}
 use Rattle.contacts.specs.EdgePairs.{edgePoint, nearestOf, alongOf, edgeContactOf}
-use Rattle.collide_cached.specs.Ridges.{ridgeOf, carriedRidge, crossesOf, axisBetween}
-use Rattle.collide_cached.specs.Again.{deepestBelowA, separationFromA, cachedFaceAOf, deepestBelowB, separationFromB, cachedFaceBOf, cachedEdgeOf}
+use Rattle.collide_cached.specs.Ridges.{ridgeOf, carriedRidge, crossesOf}
+use Rattle.collide_cached.specs.Again.{cachedFaceAOf, cachedFaceBOf, cachedEdgeOf}
 use Rattle.collide_full.specs.Full.{triesEdge, pairContact, contactA, contactB, winnerContact, insteadOf, withEdge, foundContact, apartBuilt}
 use Rattle.collide_full.specs.Full.{afterSearch, fullOf}
 use Rattle.collide_refusals.specs.Refusals.{refusalOf}
@@ -306,43 +306,28 @@ module _ (s : HullSize) (n : List Float) (l : List ℕ) (t : HullSize) (m : List
       (λ u. rw (p, d .touching, u) (answers-no-hit cache)))
       (λ p. rw p (answers-refused cache (noHit (built .status)) _ p))
 
-  -- ---- the cached axis
-  after-face-a : (cache : SatCache) → let f = cache .«index_a» in
-      After cache (cachedFaceAOf s n l t m k x cache)
-      (cachedSource s n l t m k x cache (Ieee.le speculative (separationFromA s n t m x f)) (face-a f (deepestBelowA s n t m x f)))
-  unfolding cachedFaceAOf cachedSource
-  after-face-a cache =
-      choice (After cache) (Ieee.le speculative (separationFromA s n t m x (cache .«index_a»))) _ refl
-      (λ h. answers-hit cache _ _ (of-none apart)) (λ h. after-served cache _ _ (makes-a _ _))
+  -- ---- the cached axis: apart, or what is built of it
+  after-axis : (cache : SatCache) (isApart : Bool) (built : Built) (source : Source) → Makes built source
+      → After cache (cond isApart (hitWith emptyContact) (servedOf cache built)) (cachedSource s n l t m k x cache isApart source)
+  unfolding cachedSource
+  after-axis cache isApart built source h =
+      choice (After cache) isApart _ refl (λ p. answers-hit cache _ _ (of-none apart)) (λ p. after-served cache built source h)
 
-  after-face-b : (cache : SatCache) → let f = cache .«index_b» in
-      After cache (cachedFaceBOf s n l t m k x cache)
-      (cachedSource s n l t m k x cache (Ieee.le speculative (separationFromB s n t m x f)) (face-b f (deepestBelowB s n t m x f)))
-  unfolding cachedFaceBOf cachedSource
-  after-face-b cache =
-      choice (After cache) (Ieee.le speculative (separationFromB s n t m x (cache .«index_b»))) _ refl
-      (λ h. answers-hit cache _ _ (of-none apart)) (λ h. after-served cache _ _ (makes-b _ _))
-
-  after-edge : (cache : SatCache)
+  after-edges : (cache : SatCache)
       → After cache (cachedEdgeOf s n l t m k x cache)
       (cachedEdges s n l t m k x cache (ridgeOf s n l (cache .«index_a»)) (carriedRidge x t m k (cache .«index_b»)))
-  unfolding cachedEdgeOf cachedEdges cachedSource
-  after-edge cache =
-      let a = ridgeOf s n l (cache .«index_a») in
-      let b = carriedRidge x t m k (cache .«index_b») in
-      choice (After cache) (crossesOf a b) _ refl
-      (λ h. choice (After cache) (Ieee.lt speculative (dotOf (axisBetween a b) (subOf (a .end) (b .end)))) _ refl
-      (λ q. answers-hit cache _ _ (of-none apart))
-      (λ q. after-served cache _ _ (λ z. made-edges _ _ _)))
-      (λ h. answers-no-hit cache)
+  unfolding cachedEdgeOf cachedEdges
+  after-edges cache =
+      choice (After cache) (crossesOf (ridgeOf s n l (cache .«index_a»)) (carriedRidge x t m k (cache .«index_b»))) _ refl
+      (λ h. after-axis cache _ _ _ (λ z. made-edges _ _ _)) (λ h. answers-no-hit cache)
 
   -- ---- the call
   answers-worked : (cache : SatCache) → Answers (workedOf s n l t m k x cache) (workSource s n l t m k x cache)
-  unfolding workedOf workSource
+  unfolding workedOf workSource cachedFaceAOf cachedFaceBOf
   answers-worked cache =
-      choice Answers (eqb (cache .kind) 2) _ refl (λ h. after-face-a cache)
-      (λ h. choice Answers (eqb (cache .kind) 3) _ refl (λ q. after-face-b cache)
-      (λ q. choice Answers (eqb (cache .kind) 4) _ refl (λ z. after-edge cache) (λ z. answers-full cache)))
+      choice Answers (eqb (cache .kind) 2) _ refl (λ h. after-axis cache _ _ _ (makes-a _ _))
+      (λ h. choice Answers (eqb (cache .kind) 3) _ refl (λ q. after-axis cache _ _ _ (makes-b _ _))
+      (λ q. choice Answers (eqb (cache .kind) 4) _ refl (λ z. after-edges cache) (λ z. answers-full cache)))
 
   small-call : (capacity : ℤ) (cache : SatCache) → ltZ capacity (pos 4) ≡ true
       → collideOf s n l t m k x capacity cache .outcome .contact ≡ From (none small-capacity)
