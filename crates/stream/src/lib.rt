@@ -2,18 +2,16 @@
 // characters of an unfinished line are held is `stream_pending`'s. Nothing here reads or writes.
 //
 // Lines are found by a scan of the part. One that lies whole in it is answered from there; only one that began in an earlier part is copied together first.
-ghost use mathlib.Core.Bool.{true, false};
-ghost use mathlib.Core.List.{_++_};
-ghost use mathlib.Core.Path.{_≡_};
-ghost use Prim.Native.Nat.{_+_, _≤_, _<_};
-ghost use lib.ListN.{length, set};
+ghost use mathlib.Core.List.{List, _++_};
+ghost use Prim.Native.Nat.{ℕ, _+_, _≤_, _<_};
+ghost use lib.ListN.{length};
 ghost use Rattle.frame.specs.Answers.{Answers};
 ghost use Rattle.frame.specs.Frames.{faultOf};
 ghost use Rattle.frame.specs.Lines.{lineAnswer, longestLineAnswer};
 ghost use Rattle.frame_hex.specs.Hex.{hexOf};
 ghost use Rattle.stream_pending.specs.Ends.{longestTold};
-ghost use Rattle.stream_pending.specs.Held.{Ready};
-ghost use Rattle.stream.specs.Tells.{Puts, Tells};
+ghost use Rattle.stream_pending.specs.Held.{Ready, Held};
+ghost use Rattle.stream.specs.Tells.{Tells};
 ghost use Rattle.stream.specs.Told.{lineTold, toldLast};
 use frame::lines::line_answer;
 use frame_encode::put_byte;
@@ -46,7 +44,8 @@ fn put_long(out: &mut [u8]) -> usize
 // The answer to the characters that are held.
 fn answer_held(line: &[u8], p: Pending, out: &mut [u8]) -> usize
     requires { ⌜ Ready (now line) p × (longestLineAnswer ≤ length (now out)) ⌝ }
-    ensures { λ r. ⌜ (r ≤ longestLineAnswer) × Puts lineAnswer (now (line .entry)) p (now (out .entry)) r (now (out .exit)) ⌝ }
+    ensures { λ r. ⌜ (r ≤ longestLineAnswer)
+        × ((xs : List ℕ) → Held xs (now (line .entry)) p → Answers (lineAnswer xs) (now (out .entry)) r (now (out .exit))) ⌝ }
 {
     if p.over {
         return put_long(out);
@@ -59,7 +58,7 @@ fn answer_held(line: &[u8], p: Pending, out: &mut [u8]) -> usize
 fn answer_ended(part: &[u8], line: &mut [u8], p: Pending, out: &mut [u8]) -> usize
     requires { ⌜ Ready (now line) p × (longestLineAnswer ≤ length (now out)) ⌝ }
     ensures { λ r. ⌜ (r ≤ longestLineAnswer)
-        × Puts (λ xs. lineAnswer (xs ++ now (part .entry))) (now (line .entry)) p (now (out .entry)) r (now (out .exit)) ⌝ }
+        × ((xs : List ℕ) → Held xs (now (line .entry)) p → Answers (lineAnswer (xs ++ now (part .entry))) (now (out .entry)) r (now (out .exit))) ⌝ }
 {
     if is_nothing(p) {
         return line_answer(part, out);
@@ -71,7 +70,8 @@ fn answer_ended(part: &[u8], line: &mut [u8], p: Pending, out: &mut [u8]) -> usi
 // What is told of the line that is held and ends with these characters.
 fn tell_line(part: &[u8], line: &mut [u8], p: Pending, out: &mut [u8]) -> usize
     requires { ⌜ Ready (now line) p × (longestTold ≤ length (now out)) ⌝ }
-    ensures { λ r. ⌜ (r ≤ longestTold) × Puts (λ xs. lineTold (xs ++ now (part .entry))) (now (line .entry)) p (now (out .entry)) r (now (out .exit)) ⌝ }
+    ensures { λ r. ⌜ (r ≤ longestTold)
+        × ((xs : List ℕ) → Held xs (now (line .entry)) p → Answers (lineTold (xs ++ now (part .entry))) (now (out .entry)) r (now (out .exit))) ⌝ }
 {
     let n = answer_ended(part, line, p, out);
     end_line(out, n)
@@ -80,7 +80,8 @@ fn tell_line(part: &[u8], line: &mut [u8], p: Pending, out: &mut [u8]) -> usize
 // What is told at the end of the input.
 pub fn tell_last(line: &[u8], p: Pending, out: &mut [u8]) -> usize
     requires { ⌜ Ready (now line) p × (longestTold ≤ length (now out)) ⌝ }
-    ensures { λ r. ⌜ (r ≤ longestTold) × Puts toldLast (now (line .entry)) p (now (out .entry)) r (now (out .exit)) ⌝ }
+    ensures { λ r. ⌜ (r ≤ longestTold)
+        × ((xs : List ℕ) → Held xs (now (line .entry)) p → Answers (toldLast xs) (now (out .entry)) r (now (out .exit))) ⌝ }
 {
     if is_nothing(p) {
         return 0;
@@ -92,8 +93,9 @@ pub fn tell_last(line: &[u8], p: Pending, out: &mut [u8]) -> usize
 // The next line of what was read, or what there is of it.
 fn tell_next(rest: &[u8], line: &mut [u8], p: Pending, out: &mut [u8]) -> Part
     requires { ⌜ (0 < length (now rest)) × Ready (now line) p × (longestTold ≤ length (now out)) ⌝ }
-    ensures { λ r. ⌜ (0 < r .taken) × (r .count ≤ longestTold) × Tells (now (rest .entry)) (now (line .entry)) p (now (out .entry)) r (now (line .exit))
-        (now (out .exit)) ⌝ }
+    ensures { λ r. ⌜ (0 < r .taken) × (r .taken ≤ length (now (rest .entry))) × (r .count ≤ longestTold) × Ready (now (line .exit)) (r .held)
+        × ((xs : List ℕ) → Held xs (now (line .entry)) p
+        → Tells xs (now (rest .entry)) (now (out .entry)) r (now (line .exit)) (now (out .exit))) ⌝ }
 {
     let n = line_end(rest);
     if n < rest.len() {
@@ -118,9 +120,10 @@ fn tell_next(rest: &[u8], line: &mut [u8], p: Pending, out: &mut [u8]) -> Part
 // What was read, to its end or until the next answer may find too little room: the answers stand in `out` from the first place on, in order.
 pub fn tell_part(chunk: &[u8], line: &mut [u8], p: Pending, out: &mut [u8]) -> Part
     requires { ⌜ (0 < length (now chunk)) × Ready (now line) p × (longestTold ≤ length (now out)) ⌝ }
-    ensures { λ r. ⌜ (0 < r .taken) × (r .count ≤ length (now (out .entry)))
-        × (r .taken < length (now (chunk .entry)) → length (now (out .entry)) < r .count + longestTold)
-        × Tells (now (chunk .entry)) (now (line .entry)) p (now (out .entry)) r (now (line .exit)) (now (out .exit)) ⌝ }
+    ensures { λ r. ⌜ (0 < r .taken) × (r .taken ≤ length (now (chunk .entry))) × (r .count ≤ length (now (out .entry)))
+        × (r .taken < length (now (chunk .entry)) → length (now (out .entry)) < r .count + longestTold) × Ready (now (line .exit)) (r .held)
+        × ((xs : List ℕ) → Held xs (now (line .entry)) p
+        → Tells xs (now (chunk .entry)) (now (out .entry)) r (now (line .exit)) (now (out .exit))) ⌝ }
 {
     let mut i = 0;
     let mut q = p;

@@ -5,7 +5,7 @@ use mathlib.Core.List.{List}
 use native.Mathlib.Numerals.{add-one}
 use lib.ListN.{length, getD, set}
 use lib.Seq.{paste, paste-zero, paste-suc}
-use Rattle.stream_pending.specs.Copied.{Copied}
+use Rattle.stream_pending.specs.inner.Copied.{Copied}
 
 pub copied-none : {s d : List ℕ} {at : ℕ} → Copied s d at 0 d
 copied-none {s} {d} {at} = record { by = paste-zero d at s }

@@ -3,7 +3,7 @@
 use Prim.Native.Nat.{ℕ, _≤_, _<_}
 use mathlib.Core.Path.{_≡_}
 use mathlib.Core.Bool.{Bool, true, false, cond}
-use mathlib.Core.List.{List, _++_}
+use mathlib.Core.List.{List}
 use lib.Dec.{eqb}
 use lib.ListN.{length, take}
 use Rattle.stream_pending.specs.declared.Pending.{Pending}
@@ -21,8 +21,3 @@ pub record Held (xs line : List ℕ) (p : Pending) : Type 0 where
 -- there are none
 abbrev pub nothing : Pending → Bool
 nothing p = cond (p .over) false (eqb (p .len) 0)
-
--- characters came to those that were held
-pub record Grows (part line : List ℕ) (p : Pending) (line′ : List ℕ) (p′ : Pending) : Type 0 where
-  pub ready : Ready line′ p′
-  pub held : (xs : List ℕ) → Held xs line p → Held (xs ++ part) line′ p′

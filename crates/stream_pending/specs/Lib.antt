@@ -1,3 +1,3 @@
 pub mod Ends
-pub mod Copied
 pub mod Held
+pub mod inner

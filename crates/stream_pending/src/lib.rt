@@ -1,12 +1,13 @@
 // The characters of a line whose end has not come, held until it comes, and the ends of lines: what the program does with characters before it knows
 // what they say. specs/Held.antt says how they are held, specs/Ends.antt where a line ends.
 ghost use mathlib.Core.Bool.{true, false};
+ghost use mathlib.Core.List.{List, _++_};
 ghost use mathlib.Core.Path.{_≡_};
-ghost use Prim.Native.Nat.{_+_, _≤_, _<_};
+ghost use Prim.Native.Nat.{ℕ, _+_, _≤_, _<_};
 ghost use lib.ListN.{length, set};
-ghost use Rattle.stream_pending.specs.Copied.{Copied};
+ghost use Rattle.stream_pending.specs.inner.Copied.{Copied};
 ghost use Rattle.stream_pending.specs.Ends.{toEnd, longestTold};
-ghost use Rattle.stream_pending.specs.Held.{Ready, nothing, Grows};
+ghost use Rattle.stream_pending.specs.Held.{Ready, Held, nothing};
 
 // The most characters that are kept of a line.
 const MOST: usize = 20000;
@@ -59,7 +60,8 @@ pub fn is_nothing(p: Pending) -> bool
 // More characters of the line that is held.
 pub fn hold(part: &[u8], line: &mut [u8], p: Pending) -> Pending
     requires { ⌜ Ready (now line) p ⌝ }
-    ensures { λ r. ⌜ Grows (now (part .entry)) (now (line .entry)) p (now (line .exit)) r ⌝ }
+    ensures { λ r. ⌜ Ready (now (line .exit)) r
+        × ((xs : List ℕ) → Held xs (now (line .entry)) p → Held (xs ++ now (part .entry)) (now (line .exit)) r) ⌝ }
 {
     if p.over {
         return p;

@@ -2,7 +2,7 @@
 use native.Mathlib.Omega.{arith}
 use Rattle.frame_hex.specs.Hex.{hexOf}
 use lib.ListN.{length-take}
-use Rattle.stream.proofs.Tells.{answer-most, puts-long, puts-kept}
+use Rattle.stream.proofs.Tells.{answer-most, answers-long, answers-kept}
 use borrow.Author.Needs.{needs}
 use Rattle.stream.proofs.answer_held.Statement.{statement}
 use Rattle.stream.proofs.answer_held.Tie as tie
@@ -17,8 +17,7 @@ returns : tie.Need-returns
 unfolding hexOf
 returns c = (
   omega (arith, c .before .before .put-long .ensures .count),
-  puts-long (c .before .before .before .before .if1 .taken)
-      (c .before .before .put-long .ensures),
+  λ xs h. answers-long (c .before .before .before .before .if1 .taken) h (c .before .before .put-long .ensures),
 )
 
 slice-aggregate-line-answer : tie.Need-slice-aggregate-line-answer
@@ -33,8 +32,7 @@ same-length-2 c = search needs
 returns-2 : tie.Need-returns-2
 returns-2 c = (
   answer-most _ (c .before .before .line-answer .ensures),
-  puts-kept (c .before .before .before .before .before .if1 .left)
-      (c .before .before .line-answer .ensures),
+  λ xs h. answers-kept (c .before .before .before .before .before .if1 .left) h (c .before .before .line-answer .ensures),
 )
 
 pub answer-held-spec : {M : Type 1} → statement M

@@ -1,7 +1,7 @@
 -- Nothing, or the answer to what is held and its line end.
 use native.Mathlib.Omega.{arith}
 use mathlib.Core.Path.{sym, _∙_}
-use Rattle.stream.proofs.Tells.{last-nothing, last-held, puts-end}
+use Rattle.stream.proofs.Tells.{last-nothing, last-held, answers-end}
 use borrow.Author.Needs.{needs}
 use Rattle.stream.proofs.tell_last.Statement.{statement}
 use Rattle.stream.proofs.tell_last.Tie as tie
@@ -10,7 +10,7 @@ is-nothing-requires : tie.Need-is-nothing-requires
 is-nothing-requires c κs = search needs
 
 returns : tie.Need-returns
-returns c = (omega arith, last-nothing (sym (c .before .is-nothing .ensures) ∙ c .if1 .taken))
+returns c = (omega arith, λ xs h. last-nothing (sym (c .before .is-nothing .ensures) ∙ c .if1 .taken) h)
 
 answer-held-requires : tie.Need-answer-held-requires
 answer-held-requires c κs = search needs
@@ -24,10 +24,10 @@ same-length c = search needs
 returns-2 : tie.Need-returns-2
 returns-2 c = (
   omega arith,
-  last-held (sym (c .before .before .before .before .before .before .before .before .before .is-nothing .ensures)
+  λ xs h. last-held (sym (c .before .before .before .before .before .before .before .before .before .is-nothing .ensures)
       ∙ c .before .before .before .before .before .before .before .before .if1 .left)
-      (c .before .before .before .before .before .before .before .before .before .before .before .before .pre .0)
-      (puts-end (c .before .before .before .before .before .before .answer-held .ensures .1) (omega arith) (c .before .before .end-line .ensures .0)
+      (c .before .before .before .before .before .before .before .before .before .before .before .before .pre .0) h
+      (answers-end (c .before .before .before .before .before .before .answer-held .ensures .1 xs h) (omega arith) (c .before .before .end-line .ensures .0)
       (c .before .before .end-line .ensures .1)),
 )
 

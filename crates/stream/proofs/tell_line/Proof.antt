@@ -1,6 +1,6 @@
 -- The answer, and its line end.
 use native.Mathlib.Omega.{arith}
-use Rattle.stream.proofs.Tells.{puts-end}
+use Rattle.stream.proofs.Tells.{answers-end}
 use borrow.Author.Needs.{needs}
 use Rattle.stream.proofs.tell_line.Statement.{statement}
 use Rattle.stream.proofs.tell_line.Tie as tie
@@ -20,7 +20,7 @@ same-length-2 c = search needs
 returns : tie.Need-returns
 returns c = (
   omega arith,
-  puts-end (c .before .before .before .before .before .before .before .before .answer-ended .ensures .1) (omega arith)
+  λ xs h. answers-end (c .before .before .before .before .before .before .before .before .answer-ended .ensures .1 xs h) (omega arith)
       (c .before .before .end-line .ensures .0) (c .before .before .end-line .ensures .1),
 )
 

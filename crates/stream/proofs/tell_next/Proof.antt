@@ -1,6 +1,7 @@
 -- A line that ends, or what there is of it.
 use native.Mathlib.Omega.{arith}
 use lib.ListN.{length-take}
+use Rattle.stream_pending.proofs.Scans.{toEnd-most}
 use Rattle.stream.proofs.Tells.{tells-line, tells-rest}
 use borrow.Author.Needs.{needs}
 use Rattle.stream.proofs.tell_next.Statement.{statement}
@@ -28,8 +29,10 @@ returns : tie.Need-returns
 returns c = (
   omega arith,
   omega arith,
-  tells-line (c .before .before .before .before .before .before .before .before .before .line-end .ensures)
-      (c .before .before .before .before .before .before .before .before .if1 .taken) (omega arith) (c .before .before .before .before .tell-line .ensures .1),
+  omega arith,
+  record { room = omega arith; most = omega arith },
+  λ xs h. tells-line (c .before .before .before .before .before .before .before .before .before .line-end .ensures)
+      (c .before .before .before .before .before .before .before .before .if1 .taken) (c .before .before .before .before .tell-line .ensures .1 xs h),
 )
 
 hold-requires : tie.Need-hold-requires
@@ -41,9 +44,11 @@ same-length-3 c = search needs
 returns-2 : tie.Need-returns-2
 returns-2 c = (
   omega arith,
+  omega (arith, toEnd-most (c .before .before .before .before .before .before .before .before .before .args .rest .now)),
   omega arith,
-  tells-rest (c .before .before .before .before .before .line-end .ensures)
-      (c .before .before .before .before .if1 .left) (c .before .before .hold .ensures),
+  c .before .before .hold .ensures .0,
+  λ xs h. tells-rest (c .before .before .before .before .before .line-end .ensures)
+      (c .before .before .before .before .if1 .left) (c .before .before .hold .ensures .1 xs h),
 )
 
 pub tell-next-spec : {M : Type 1} → statement M

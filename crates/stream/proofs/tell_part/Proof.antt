@@ -1,30 +1,27 @@
 -- One line a turn: the answers so far stand in `out`, and each takes at most `longestTold` places.
-use Prim.Native.Nat.{_≤_, _<_, _+_, _-_, _*_}
+use Prim.Native.Nat.{ℕ, _≤_, _<_, _+_, _-_, _*_}
 use mathlib.Core.Path.{_≡_, refl, _∙_}
+use mathlib.Core.List.{List}
 use native.Mathlib.Omega.{arith}
 use lib.ListN.{length, length-take, length-drop}
 use borrow.Rule.Slice.PartMut.{same-len-mid}
 use Rattle.stream_pending.specs.Ends.{longestTold}
+use Rattle.stream_pending.specs.Held.{Ready, Held}
 use Rattle.stream.specs.Tells.{Tells}
 use Rattle.stream.proofs.Tells.{tells-none, tells-next, moves}
-use mathlib.Core.Path.{_≡_, refl}
-use Prim.Native.Nat.{_≤_, _-_, _*_}
-use Rattle.stream.proofs.Tells.{tells-none, tells-next}
--- One line a turn.
-use lib.ListN.{length}
-use Rattle.stream.proofs.Tells.{tells-none}
 use Rattle.stream.proofs.tell_part.Statement.{statement}
 use Rattle.stream.proofs.tell_part.Tie as tie
 
 abbrev Inv-loop : tie.InvT-loop
-Inv-loop chunk line₀ out₀ i₀ q₀ n₀ line out i q n = (n ≤ length out₀) × (n ≤ longestTold * i) × (length line ≡ length line₀) × (length out ≡ length out₀)
-    × Tells chunk line₀ q₀ out₀ (record { taken = i; held = q; count = n }) line out
+Inv-loop chunk line₀ out₀ i₀ q₀ n₀ line out i q n = (n ≤ length out₀) × (n ≤ longestTold * i) × (i ≤ length chunk) × (length line ≡ length line₀)
+    × (length out ≡ length out₀) × Ready line q
+    × ((xs : List ℕ) → Held xs line₀ q₀ → Tells xs chunk out₀ (record { taken = i; held = q; count = n }) line out)
 
 abbrev μ-loop : tie.MeasureT-loop
 μ-loop chunk line₀ out₀ i₀ q₀ n₀ line out i q n = length chunk - i
 
 loop-holds : tie.Need-loop-holds Inv-loop μ-loop
-loop-holds c = (omega arith, omega arith, refl, refl, tells-none (c .before .before .before .pre .1))
+loop-holds c = (omega arith, omega arith, omega arith, refl, refl, c .before .before .before .pre .1, λ xs h. tells-none h)
 
 goes-on-requires : tie.Need-goes-on-requires Inv-loop μ-loop
 goes-on-requires c κs = omega arith
@@ -50,17 +47,17 @@ part-tell-next-end-2 c = omega arith
 tell-next-requires : tie.Need-tell-next-requires Inv-loop μ-loop
 tell-next-requires c κs = let g = c .before .before .before .before .goes-on .ensures .0 (c .before .before .before .if1 .taken) in (
   simp (length-take, length-drop) (omega arith),
-  c .before .before .before .before .before .loop .inv .4 .ready,
+  c .before .before .before .before .before .loop .inv .5,
   simp (length-take, length-drop) (omega arith),
 )
 
 add-i : tie.Need-add-i Inv-loop μ-loop
-add-i c = omega (arith, simp (length-take, length-drop) at (c .before .before .before .before .before .tell-next .ensures .2 .taken))
+add-i c = omega (arith, simp (length-take, length-drop) at (c .before .before .before .before .before .tell-next .ensures .1))
 
 add-n : tie.Need-add-n Inv-loop μ-loop
 add-n c = let g = c .before .before .before .before .before .before .before .before .before .before .before .before .goes-on .ensures .0
     (c .before .before .before .before .before .before .before .before .before .before .before .if1 .taken) in
-    omega (arith, c .before .before .before .before .before .before .before .tell-next .ensures .1)
+    omega (arith, c .before .before .before .before .before .before .before .tell-next .ensures .2)
 
 loop-less : tie.Need-loop-less Inv-loop μ-loop
 loop-less c = let g = c .before .before .before .before .before .before .before .before .before .before .before .before .goes-on .ensures .0
@@ -72,12 +69,15 @@ loop-again c = let g = c .before .before .before .before .before .before .before
     (c .before .before .before .before .before .before .before .before .before .before .before .if1 .taken) in (
       omega arith,
       omega arith,
+      omega (arith, simp (length-take, length-drop) at (c .before .before .before .before .before .before .before .tell-next .ensures .1)),
       omega arith,
       (let w = c .before .before .before .before .before .before .before .before .before .before .before .before .before .loop in
           let t = c .before .before .before .before .before .before .before .tell-next in
-          same-len-mid (w .n) (length (w .out) - w .n) (w .out) (t .last .1 .1 .1 .0) (t .kept .1 .1 .1 .0) ∙ w .inv .3),
-      tells-next (omega arith) (c .before .before .before .before .before .before .before .before .before .before .before .before .before .loop .inv .4)
-          (c .before .before .before .before .before .before .before .tell-next .ensures .2),
+          same-len-mid (w .n) (length (w .out) - w .n) (w .out) (t .last .1 .1 .1 .0) (t .kept .1 .1 .1 .0) ∙ w .inv .4),
+      c .before .before .before .before .before .before .before .tell-next .ensures .3,
+      λ xs h. tells-next (omega arith)
+          (c .before .before .before .before .before .before .before .before .before .before .before .before .before .loop .inv .6 xs h)
+          (c .before .before .before .before .before .before .before .tell-next .ensures .4),
     )
 
 same-length : tie.Need-same-length Inv-loop μ-loop
@@ -94,8 +94,10 @@ returns c = let g = c .before .goes-on .ensures .1 (c .if1 .left) in
       moves _ _ _ _ (c .before .before .loop .inv .1) (c .before .before .before .before .before .before .pre .2)
           (c .before .before .before .before .before .before .pre .0) ends,
       omega arith,
+      omega arith,
       ends,
-      c .before .before .loop .inv .4,
+      c .before .before .loop .inv .5,
+      c .before .before .loop .inv .6,
     )
 
 pub tell-part-spec : {M : Type 1} → statement M

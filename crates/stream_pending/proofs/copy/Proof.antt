@@ -3,7 +3,7 @@ use Prim.Native.Nat.{_≤_, _-_}
 use mathlib.Core.Path.{_≡_, refl}
 use native.Mathlib.Omega.{arith}
 use lib.ListN.{length, length-set}
-use Rattle.stream_pending.specs.Copied.{Copied}
+use Rattle.stream_pending.specs.inner.Copied.{Copied}
 use Rattle.stream_pending.proofs.Copies.{copied-none, copied-more, copied-to}
 use Rattle.stream_pending.proofs.copy.Statement.{statement}
 use Rattle.stream_pending.proofs.copy.Tie as tie

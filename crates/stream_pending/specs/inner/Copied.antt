@@ -1,4 +1,4 @@
--- What it means that characters were copied into a list. Definitions only.
+-- Inner: what it means that characters were copied into a list. Definitions only.
 use Prim.Native.Nat.{ℕ}
 use mathlib.Core.Path.{_≡_}
 use mathlib.Core.List.{List}
