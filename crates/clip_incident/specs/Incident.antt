@@ -26,7 +26,7 @@ unfoldable pub flattestFrom : HullSize → List Float → List ℕ → Vec3 → 
 flattestFrom s n l normal p best [] = best
 flattestFrom s n l normal p best (e ∷ es) = flattestFrom s n l normal p (flatterOf best e (projectionOf s n l normal p e)) es
 
--- the least of the fan of vertex v, from the largest float on
+-- the least of the fan of vertex v, from the largest float on; on accepted input a half-edge is always below that (crates/promises/specs/Incident.antt)
 unfoldable pub flattestOf : HullSize → List Float → List ℕ → Vec3 → ℕ → ℕ
 flattestOf s n l normal v = flattestFrom s n l normal (vertexAt s n v) (record { edge = vertexEdge s l v; projection = float 0x7f7f_ffff }) (fan s l v) .edge
 

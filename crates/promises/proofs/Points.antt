@@ -1,11 +1,13 @@
 -- Demand 3, the points. "At most four points come back, each the image of a candidate, none used twice; four candidates or fewer: all, in order." Of the
 -- candidates of this very call (specs/OneCall.antt `sourceOf`), whatever is lent, and whatever the awaited helpers answer. Assumes nothing.
 use Prim.Native.Nat.{ℕ, _≤_, _<_}
+use mathlib.Core.Bool.{true}
 use mathlib.Core.List.{List, map}
 use mathlib.Core.Path.{_≡_, refl, sym, ap, subst, _∙_}
 use native.Mathlib.Omega.{arith}
 use lib.ListN.{length, getD, length-map, List·getD-append}
-use lib.IntN.{ℤ}
+use lib.IntN.{ℤ, pos}
+use lib.Signed.{ltZ}
 use lib.Ieee.{Float}
 use Rattle.vector.specs.declared.Transform.{Transform}
 use Rattle.manifold.specs.declared.ClipVertex.{ClipVertex}
@@ -13,16 +15,20 @@ use Rattle.manifold.specs.declared.SatCache.{SatCache}
 use Rattle.manifold.specs.declared.Contact.{Contact}
 use Rattle.manifold.specs.declared.Outcome.{Outcome}
 use Rattle.manifold.specs.Records.{zeroPoint, pastVertex}
+use borrow.Author.Tests.{ne-eqb}
 use Rattle.hull_links.specs.declared.HullSize.{HullSize}
+use Rattle.hull_links.proofs.Tests.{cases}
 use Rattle.reduce_points.specs.Points.{pointOf, contactOf}
 use Rattle.reduce.specs.Reduce.{numbered}
 use Rattle.collide.specs.Call.{collideOf}
 use Rattle.contactlib.specs.Lent.{Called}
 use Rattle.promises.specs.Numbers.{Exactly}
 use Rattle.promises.specs.Sources.{Source, NoCandidates, candidatesFrom, imageFrom, imagesFrom, placesFrom, pointsTaken, normalFrom, contactFrom}
+use Rattle.promises.specs.Sources.{small-capacity, refused, none}
 use Rattle.promises.specs.OneCall.{sourceOf}
 use Rattle.promises.proofs.Draws.{getD-map, drawn, answers-call}
 use Rattle.promises.proofs.Empty.{told-call}
+use Rattle.promises.proofs.Refusals as Refusals
 
 -- hull A is (s, n, l), hull B is (t, m, k), and x places B in A's frame; was is the lent cache at entry, is at exit
 module _ (s : HullSize) (n : List Float) (l : List ℕ) (t : HullSize) (m : List Float) (k : List ℕ) (x : Transform) (capacity : ℤ)
@@ -97,6 +103,17 @@ module _ (s : HullSize) (n : List Float) (l : List ℕ) (t : HullSize) (m : List
   pub no-candidates : Exactly (NoCandidates source) 0 (length candidates)
   unfolding candidatesFrom
   no-candidates = record { given = λ h. rw (h .is) refl; only = told-call s n l t m k x capacity was }
+
+  -- a call whose capacity is below 4, and one that is refused, among them
+  pub small-has-none : ltZ capacity (pos 4) ≡ true → source ≡ none small-capacity
+  unfolding sourceOf
+  small-has-none small = rw small
+
+  pub refused-has-none : (r .status ≡ 0 → ⊥) → source ≡ none refused
+  unfolding sourceOf
+  refused-has-none h =
+      cases (ltZ capacity (pos 4)) (λ small. absurd (h (Refusals.small-capacity s n l t m k x capacity was r is called small .0)))
+      (λ wide. rw (wide, ne-eqb _ _ (λ z. h (Refusals.number s n l t m k x capacity was r is called ∙ z))))
 
   -- and an empty contact only there, or where none of more than four is picked
   pub empty-only-there : r .contact .count ≡ 0 → length candidates ≤ 4 → NoCandidates source
