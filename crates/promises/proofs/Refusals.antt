@@ -3,6 +3,7 @@
 use Prim.Native.Nat.{ℕ, _≤_, _<_}
 use mathlib.Core.Bool.{Bool, true, false, cond, false≢true}
 use mathlib.Core.List.{List, [], _∷_}
+use mathlib.Core.Logic.{_⊎_, inl, inr}
 use mathlib.Core.Path.{_≡_, sym, ap, subst, _∙_}
 use native.Mathlib.Omega.{arith}
 use lib.Dec.{eqb}
@@ -27,7 +28,7 @@ use Rattle.collide.specs.Call.{collideOf}
 use Rattle.contactlib.specs.Lent.{Called}
 use Rattle.contactlib.proofs.Keeps.{keeps-call}
 use Rattle.collide_refusals.proofs.Cases.{refuses-1, refuses-2, refuses-3, refuses-4}
-use Rattle.promises.specs.Numbers.{Exactly, firstGiven, paddingWon, cachedMeets, hits, workMeets, numberOf}
+use Rattle.promises.specs.Numbers.{Exactly, firstGiven, fullMeets, paddingWon, cachedMeets, hits, workMeets, numberOf}
 use Rattle.promises.proofs.Statuses.{call-status}
 use Rattle.promises.proofs.Later.{at-most, broken-at, work-late, work-up-to-6, cached-never-5, full-5}
 
@@ -152,30 +153,52 @@ module _ (s : HullSize) (n : List Float) (l : List ℕ) (t : HullSize) (m : List
         cases (eqb early 5) (λ five. absurd (false≢true (sym (broken-at 1 4 tests (omega arith) (eqb-true _ _ five) .0))))
         (λ other. let q = eqb-false early 5 other in omega (arith, most, q))
 
-    -- "5: the face a full .. search picks for a contact has a support vertex not below V (a padding lane won)": a full search is made where the cached
-    -- axis neither serves nor meets 6, and no cached face is refused by 5
+    -- ---- a number above 4 is one that the work meets: round the cached face, or in the full search, which is made where the cached axis neither
+    -- serves nor meets a number
     abbrev Searches : Type 0
     Searches = (cachedMeets s n l t m k x was ≡ 0) × (hits s n l t m k x was ≡ false)
 
-    abbrev PaddingWon : Type 0
-    PaddingWon = paddingWon s n l t m k x (searchOf s n l t m k x) ≡ true
+    abbrev Met : ℕ → Type 0
+    Met i = (cachedMeets s n l t m k x was ≡ i) ⊎ (Searches × (fullMeets s n l t m k x ≡ i))
 
-    pub padding : Exactly (Wide × (early ≡ 0) × Searches × PaddingWon) 5 (r .status)
+    met-given : (i : ℕ) → 0 < i → Wide → early ≡ 0 → Met i → r .status ≡ i
     unfolding numberOf firstGiven workMeets
+    met-given i low wide none (inl met) =
+        let some : cachedMeets s n l t m k x was ≡ 0 → ⊥ = λ z. absurd (omega (arith, low, met, z)) in
+        number ∙ rw (wide, eq-eqb _ _ none, ne-eqb _ _ some) met
+    met-given i low wide none (inr met) = number ∙ rw (wide, eq-eqb _ _ none, eq-eqb _ _ (met .0 .0), met .0 .1) (met .1)
+
+    given-met : (i : ℕ) → 4 < i → r .status ≡ i → Wide × (early ≡ 0) × Met i
+    unfolding numberOf firstGiven workMeets
+    given-met i high z =
+        let q = sym number ∙ z in
+        cases (ltZ capacity (pos 4)) (λ small. absurd (omega (arith, high, rw small at q)))
+        (λ wide. cases (eqb early 0)
+        (λ none. (
+          wide,
+          eqb-true _ _ none,
+          cases (eqb (cachedMeets s n l t m k x was) 0)
+              (λ quiet. cases (hits s n l t m k x was) (λ hit. absurd (omega (arith, high, rw (wide, none, quiet, hit) at q)))
+              (λ miss. inr ((eqb-true _ _ quiet, miss), rw (wide, none, quiet, miss) at q)))
+              (λ met. inl (rw (wide, none, met) at q)),
+        ))
+        (λ some. absurd (omega (arith, high, early-low, rw (wide, some) at q))))
+
+    -- "5: the face a full .. search picks for a contact has a support vertex not below V (a padding lane won)": no cached face is refused by 5
+    pub padding : Exactly (Wide × (early ≡ 0) × Searches × (paddingWon s n l t m k x (searchOf s n l t m k x) ≡ true)) 5 (r .status)
     padding =
         record {
-          given = λ h. number ∙ rw (h .0, eq-eqb _ _ (h .1), eq-eqb _ _ (h .2 .0), h .2 .1) (full-5 s n l t m k x .given (h .3));
-          only = λ q. from-work (sym number ∙ q);
+          given = λ h. met-given 5 (omega arith) (h .0) (h .1) (inr (h .2, full-5 s n l t m k x .given (h .3)));
+          only = λ q. let g = given-met 5 (omega arith) q in let w = won (g .2) in (g .0, g .1, w .0, w .1);
         }
       where
-        from-work : numberOf s n l t m k x capacity was ≡ 5 → Wide × (early ≡ 0) × Searches × PaddingWon
-        from-work q =
-            cases (ltZ capacity (pos 4)) (λ small. absurd (omega (arith, rw small at q)))
-            (λ wide. cases (eqb early 0) (λ none. cases (eqb (cachedMeets s n l t m k x was) 0)
-            (λ quiet. cases (hits s n l t m k x was) (λ hit. absurd (omega (arith, rw (wide, none, quiet, hit) at q)))
-            (λ miss. (wide, eqb-true _ _ none, (eqb-true _ _ quiet, miss), full-5 s n l t m k x .only (rw (wide, none, quiet, miss) at q))))
-            (λ met. absurd (cached-never-5 s n l t m k x was (rw (wide, none, met) at q))))
-            (λ some. absurd (omega (arith, early-low, rw (wide, some) at q))))
+        won : Met 5 → Searches × (paddingWon s n l t m k x (searchOf s n l t m k x) ≡ true)
+        won (inl met) = absurd (cached-never-5 s n l t m k x was met)
+        won (inr met) = (met .0, full-5 s n l t m k x .only (met .1))
+
+    -- "6: a cut would put out a 65th vertex": round the cached face, or round the face that the full search picks
+    pub overfull : Exactly (Wide × (early ≡ 0) × Met 6) 6 (r .status)
+    overfull = record { given = λ h. met-given 6 (omega arith) (h .0) (h .1) (h .2); only = given-met 6 (omega arith) }
 
     -- no number above 6 is given
     pub up-to-6 : r .status ≤ 6
