@@ -6,9 +6,9 @@ use lib.Ieee.{Float}
 use Rattle.bounds.specs.Bound.{Below}
 use Rattle.vector.specs.declared.Transform.{Transform}
 use Rattle.vector.specs.Bounded.{VecBelow}
-use Rattle.vector.proofs.Bounded.{more-below, neg-below}
+use Rattle.vector.proofs.Bounded.{more-below}
 use Rattle.rotation.specs.Rotation.{invertOf}
-use Rattle.rotation.proofs.Bounded.{inv-rotate-below}
+use Rattle.rotation.proofs.Bounded.{inv-rotate-below, inverted-below}
 use Rattle.manifold.specs.declared.SatCache.{SatCache}
 use Rattle.hull_links.specs.declared.HullSize.{HullSize}
 use Rattle.hull_links.specs.Links.{faceRing}
@@ -42,6 +42,6 @@ module _ (s : HullSize) (n : List Float) (l : List ℕ) (t : HullSize) (m : List
       found s n l t m k x (r .0) (r .1) (r .2 .turn-below) (r .2 .scalar-below)
 
   pub on-face-b : (f v : ℕ) → f < t .faces → v < s .vertices → EdgeFound t m k s n l (invertOf x) f v
-  unfolding invertOf
   on-face-b = let r = unrefused s n l t m k x cache right in
-      found t m k s n l (invertOf x) (r .1) (r .0) (neg-below (r .2 .turn-below)) (r .2 .scalar-below)
+      let back = inverted-below x (r .2 .turn-below) (r .2 .scalar-below) in
+      found t m k s n l (invertOf x) (r .1) (r .0) (back .0) (back .1)

@@ -9,11 +9,12 @@ use Rattle.bounds.specs.Bound.{Below}
 use Rattle.bounds.proofs.Laws.{constant, more, added, multiplied, subtracted, dot3}
 use Rattle.vector.specs.declared.Vec3.{Vec3}
 use Rattle.vector.specs.declared.Quat.{Quat}
+use Rattle.vector.specs.declared.Transform.{Transform}
 use Rattle.vector.specs.Rounded.{_⊕_, _⊖_, _⊗_, float}
 use Rattle.vector.specs.Arithmetic.{crossOf, mulSubOf}
 use Rattle.vector.specs.Bounded.{VecBelow}
-use Rattle.vector.proofs.Bounded.{more-below, cross-below, mul-add-below, mul-sub-below}
-use Rattle.rotation.specs.Rotation.{Rows, matrixOf, transposeOf, mulMvOf, invRotateOf}
+use Rattle.vector.proofs.Bounded.{more-below, neg-below, cross-below, mul-add-below, mul-sub-below}
+use Rattle.rotation.specs.Rotation.{Rows, matrixOf, transposeOf, mulMvOf, invRotateOf, invertOf}
 use Rattle.rotation.specs.Bounded.{RowsBelow}
 
 -- The numbers of a unit quaternion are at most 2, and those of its matrix at most 2 ^ 5.
@@ -58,6 +59,11 @@ mul-mv-below {j} {k} {m} {v} t p q = record { on-x = along (p .row0); on-y = alo
   where
     along : {r : Vec3} → VecBelow j r → Below (suc (suc (j + k))) (r .x ⊗ v .x ⊕ r .y ⊗ v .y ⊕ r .z ⊗ v .z)
     along r = dot3 t (r .on-x) (r .on-y) (r .on-z) (q .on-x) (q .on-y) (q .on-z)
+
+-- the turn of an inverse
+pub inverted-below : {k : ℕ} (x : Transform) → VecBelow k (x .q .v) → Below k (x .q .s) → VecBelow k (invertOf x .q .v) × Below k (invertOf x .q .s)
+unfolding invertOf
+inverted-below x p w = (neg-below p, w)
 
 -- a vector turned back
 pub inv-rotate-below : {k : ℕ} {q : Quat} {v : Vec3} → T (leb (7 + k) 127) → VecBelow 1 (q .v) → Below 1 (q .s) → VecBelow k v
