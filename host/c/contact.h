@@ -29,13 +29,16 @@ extern "C" {
 
 /* The number of these records and functions. It goes up with every change of a record, of a function's parameters, or of
    what a number in them means. */
-#define CONTACT_ABI 2
+#define CONTACT_ABI 3
 
 /* The most points of a contact, and the least capacity with which a call does any work. */
 #define CONTACT_MAX_POINTS 4
 
+/* The place of a point that is not used. */
+#define CONTACT_UNUSED_PLACE 255
+
 /* The most bytes of an answer to a frame. */
-#define CONTACT_LONGEST_ANSWER 104
+#define CONTACT_LONGEST_ANSWER 108
 
 /* Bytes of stack that a call needs at the most; contact_first_broken_rule needs less. */
 #define CONTACT_COLLIDE_STACK (80 * 1024)
@@ -122,10 +125,13 @@ typedef struct {
     contact_vec3 position; /* in A's frame */
     float separation;      /* metres, below zero where the hulls overlap there */
     contact_pair pair;
+    uint8_t place; /* which candidate it was: its place, 0 to 63, in the list of candidates as it stood before any pick. Two
+                      points of one contact never have the same, though two candidates may carry one tag. 0 of an edge
+                      point, CONTACT_UNUSED_PLACE at and above count */
 } contact_point;
 
 typedef struct {
-    contact_point points[CONTACT_MAX_POINTS]; /* zero at and above count */
+    contact_point points[CONTACT_MAX_POINTS]; /* at and above count zero but for the place */
     contact_vec3 normal;                      /* from A to B, of length 1; zero where count is 0 */
     uint8_t count;                            /* 0 to 4 */
 } contact_manifold;

@@ -139,8 +139,8 @@ static void print_contact(const contact_manifold *contact, contact_cache cache) 
         print_vector(point.position);
         printf(" m, ");
         print_gap(point.separation);
-        printf(": half-edge %d of %c, half-edge %d of %c\n", point.pair.index1, "AB"[point.pair.owner1], point.pair.index2,
-            "AB"[point.pair.owner2]);
+        printf(": half-edge %d of %c, half-edge %d of %c, candidate %d\n", point.pair.index1, "AB"[point.pair.owner1],
+            point.pair.index2, "AB"[point.pair.owner2], point.place);
     }
 }
 

@@ -3,6 +3,7 @@ use mathlib.Core.Path.{_≡_, refl}
 use mathlib.Core.Bool.{Bool, true, false}
 use mathlib.Core.List.{List, [], _∷_, map}
 use Prim.Native.Nat.{ℕ}
+use lib.ListN.{getD}
 use lib.Dec.{eqb}
 use lib.Ieee.{Float, toBits}
 use lib.Ieee as Ieee
@@ -15,7 +16,7 @@ use Rattle.vector.specs.Shape.{planeSeparationOf, planeOf, fartherOf, farthestO
 use Rattle.vector.specs.Awaited.{arbitraryPerpOf, lineDistanceOf, isFractionOf, isWithinSegmentsOf}
 use Rattle.rotation.specs.Rotation.{matrixOf, mulMvOf, rotateOf, invRotateOf, transformPointOf, invTransformPointOf, invertOf}
 use Rattle.manifold.specs.declared.SatCache.{SatCache}
-use Rattle.manifold.specs.Records.{emptyContact}
+use Rattle.manifold.specs.Records.{emptyContact, pastPoint}
 use Rattle.manifold.specs.Pairs.{ownerOf, pairOf, flipOf}
 use Rattle.manifold.specs.Polygons.{turns}
 use Rattle.hull_links.specs.Walks.{until, ring}
@@ -28,8 +29,8 @@ use Rattle.reduce_scores.specs.Images.{imageOf, leastSeparationOf, touchingOf}
 use Rattle.reduce_scores.specs.Scores.{betterPickOf, asGoodOf, reachOf, firstTurn, acrossOf, spreadOf, signedAreaOf, sideOf, outsideOf, triangleOf}
 use Rattle.reduce.specs.Reduce.{without, taken, firstBest, secondBest, thirdBest, fourthBest, fourthPicks, thirdPicks, secondPicks, firstPicks}
 use Rattle.reduce.specs.Reduce.{allOrPicked, pointsOf}
-use Rattle.reduce_points.specs.Points.{pointOf, normalOf, contactOf}
-use Rattle.contacts.specs.Faces.{pointsFrom, carriedOf, contactOnA, contactOnB, onFace, faceAOf, faceBOf}
+use Rattle.reduce_points.specs.Points.{pointOf, placedFrom, normalOf, contactOf}
+use Rattle.contacts.specs.Faces.{imagesOn, picksOn, carriedOf, contactOnA, contactOnB, onFace, faceAOf, faceBOf}
 use Rattle.contacts.specs.EdgePairs.{edgePoint, alongOf, nearestOf, edgeContactOf}
 use Rattle.collide_outcome.specs.declared.Built.{Built}
 use Rattle.collide_outcome.specs.declared.Cached.{Cached}
@@ -139,6 +140,9 @@ table =
     ∷ yes (againEdge 0x3ca3_d70b 0 .hit) ∷ no (againEdge 0x3ca3_d70a 0 .hit) ∷ no (againEdge 0x3ca3_d709 0 .hit)
     ∷ is (againEdge 0x3ca3_d70b 0x3ca3_d70b .contact .count) 0 ∷ is (againEdge 0x3ca3_d70a 0x3ca3_d70a .contact .count) 1
     ∷ is (againEdge 0xbca3_d70a 0xbca3_d70a .contact .count) 1
+    -- "An edge point has place 0" (document 02, d)
+    ∷ is (getD (againEdge 0xbca3_d70a 0xbca3_d70a .contact .points) 0 pastPoint .place) 0
+    ∷ is (getD (againEdge 0xbca3_d70a 0xbca3_d70a .contact .points) 1 pastPoint .place) 255
     -- "The edge contact is then tried if there is a pair and either no points stand or the edge separation is strictly above the cache's plus slop;"
     ∷ no (triesEdge (standing 1 0) (edge 0x3ba3_d70a)) ∷ yes (triesEdge (standing 1 0) (edge 0x3ba3_d70b))
     ∷ no (triesEdge (standing 1 0) (edge 0x3ba3_d709))
@@ -156,8 +160,8 @@ unfolding isqrt pattern rootOf absOf minOf maxOf addOf subOf negOf dotOf crossOf
     enteringOf putOutOf cutFrom lastOf cutOf projectionOf flatterOf flattestFrom flattestOf lowerFaceOf incidentFaceOf taggedOf cornerOf builtOf
     sidePlaneOf cutOn goesOn cutRound candidatesOf imageOf leastSeparationOf touchingOf betterPickOf asGoodOf reachOf firstTurn acrossOf spreadOf
     signedAreaOf sideOf outsideOf triangleOf without taken firstBest secondBest thirdBest fourthBest fourthPicks thirdPicks secondPicks firstPicks
-    allOrPicked pointsOf pointOf normalOf contactOf pointsFrom carriedOf contactOnA contactOnB onFace faceAOf faceBOf edgePoint alongOf nearestOf
-    edgeContactOf touchedOf nearOf servedOf deepestBelowA separationFromA cachedFaceAOf deepestBelowB separationFromB cachedFaceBOf cachedEdgeOf ridgeOf
-    carriedRidge crossOver wideOf crossesOf axisBetween triesEdge pairContact insteadOf Ieee.size Ieee.ofBits toBits Ieee.lt Ieee.le Ieee.neg Ieee.sub
-    Ieee.div Ieee.add Ieee.mul
+    allOrPicked pointsOf pointOf placedFrom normalOf contactOf imagesOn picksOn carriedOf contactOnA contactOnB onFace faceAOf faceBOf edgePoint alongOf
+    nearestOf edgeContactOf touchedOf nearOf servedOf deepestBelowA separationFromA cachedFaceAOf deepestBelowB separationFromB cachedFaceBOf cachedEdgeOf
+    ridgeOf carriedRidge crossOver wideOf crossesOf axisBetween triesEdge pairContact insteadOf Ieee.size Ieee.ofBits toBits Ieee.lt Ieee.le Ieee.neg
+    Ieee.sub Ieee.div Ieee.add Ieee.mul
 limits = refl

@@ -1,7 +1,7 @@
 -- Both sides of each limit, sign and tie of the cuts, the candidates and the picks, one row each. Assumes nothing.
 use mathlib.Core.Path.{_≡_, refl}
 use mathlib.Core.Bool.{Bool, true}
-use mathlib.Core.List.{List, [], _∷_, _++_}
+use mathlib.Core.List.{List, [], _∷_, _++_, map}
 use Prim.Native.Nat.{ℕ, _*_}
 use lib.ListN.{length, replicate}
 use lib.Ieee.{toBits}
@@ -13,8 +13,10 @@ use Rattle.vector.specs.Rounded.{float}
 use Rattle.vector.specs.Scalar.{absOf, minOf, maxOf, minIntOf}
 use Rattle.vector.specs.Arithmetic.{addOf, subOf, negOf, dotOf, crossOf, lengthSquaredOf, mulAddOf, mulSubOf}
 use Rattle.vector.specs.Shape.{planeSeparationOf}
+use Rattle.vector.specs.Awaited.{arbitraryPerpOf}
 use Rattle.rotation.specs.Rotation.{matrixOf, mulMvOf}
 use Rattle.manifold.specs.declared.ClipVertex.{ClipVertex}
+use Rattle.manifold.specs.declared.Point.{Point}
 use Rattle.manifold.specs.Records.{zeroPair, zeroVertex, emptyContact}
 use Rattle.manifold.specs.Pairs.{flipOf}
 use Rattle.manifold.specs.Polygons.{turns}
@@ -30,8 +32,8 @@ use Rattle.reduce_scores.specs.Images.{imageOf, leastSeparationOf, touchingOf}
 use Rattle.reduce_scores.specs.Scores.{bias, betterPickOf, asGoodOf, reachOf, firstTurn, acrossOf, spreadOf, signedAreaOf, sideOf, outsideOf, triangleOf}
 use Rattle.reduce.specs.Reduce.{without, standing, taken, firstBest, secondBest, thirdBest, fourthBest, tolerance, fourthPicks, thirdPicks, secondPicks}
 use Rattle.reduce.specs.Reduce.{firstPicks, allOrPicked, pointsOf, numbered, placesOf}
-use Rattle.reduce_points.specs.Points.{pointOf, normalOf, contactOf}
-use Rattle.contacts.specs.Faces.{carriedOf, onFace}
+use Rattle.reduce_points.specs.Points.{pointOf, placedFrom, placed, normalOf, contactOf}
+use Rattle.contacts.specs.Faces.{imagesOn, picksOn, carriedOf, contactOnA, contactOnB, onFace}
 use Rattle.collide_outcome.specs.declared.Built.{Built}
 use Rattle.collide_outcome.specs.Builds.{touchedOf}
 use Rattle.computed.proofs.Rows.{Row, row, is, yes, no, given, said, bits, vec, sizes}
@@ -83,6 +85,13 @@ lent n = packedOf [] [] 0 n .full
 
 abbrev onto : List ClipVertex → Built
 onto candidates = onFace emptyContact 2 3 4 candidates
+
+-- the places that points say, and those of so many candidates at one position
+abbrev places : List Point → List ℕ
+places points = map (λ (p : Point). p .place) points
+
+abbrev placesOfPicks : ℕ → List ℕ
+placesOfPicks n = places (pointsOf (firstPicks (vec 0x3f80_0000 0 0) up (many n)) (many n))
 
 -- half a turn about z, to (0, 0, 1)
 abbrev turn : Transform
@@ -157,8 +166,14 @@ table =
     ∷ is (bits (carriedOf turn (corner 0x3f80_0000 0 0) .position .z)) 0x3f80_0000
     ∷ row (pairs (carriedOf turn (tagged 5 6) ∷ [])) (0 ∷ 6 ∷ 0 ∷ 5 ∷ [])
     -- "More than four candidates: up to four picks": four are all taken, of five in one place one
-    ∷ row (placesOf (vec 0x3f80_0000 0 0) up (many 4)) (0 ∷ 1 ∷ 2 ∷ 3 ∷ []) ∷ row (placesOf (vec 0x3f80_0000 0 0) up (many 5)) (0 ∷ [])
-    ∷ is (length (pointsOf (vec 0x3f80_0000 0 0) up (many 4))) 4 ∷ is (length (pointsOf (vec 0x3f80_0000 0 0) up (many 5))) 1
+    ∷ row (placesOfPicks 4) (0 ∷ 1 ∷ 2 ∷ 3 ∷ []) ∷ row (placesOfPicks 5) (0 ∷ [])
+    -- "the place of its candidate in the list as it stood before any pick": the second pick's 1 is the last of five by then, and the third's the fourth
+    ∷ row (places (pointsOf (1 ∷ 1 ∷ 1 ∷ []) (many 5))) (1 ∷ 4 ∷ 3 ∷ []) ∷ row (placesOf (1 ∷ 1 ∷ 1 ∷ []) 5) (1 ∷ 4 ∷ 3 ∷ [])
+    ∷ row (places (pointsOf (4 ∷ 3 ∷ 2 ∷ 0 ∷ []) (many 5))) (4 ∷ 3 ∷ 2 ∷ 0 ∷ [])
+    ∷ row (places (pointsOf (1 ∷ 1 ∷ 1 ∷ []) (many 4))) (0 ∷ 1 ∷ 2 ∷ 3 ∷ [])
+    -- "the face contacts hand it up", of a face of A and of B; "unused places 255"
+    ∷ row (places (contactOnA up (many 3) .points)) (0 ∷ 1 ∷ 2 ∷ 255 ∷ []) ∷ row (places (contactOnB turn up (many 3) .points)) (0 ∷ 1 ∷ 2 ∷ 255 ∷ [])
+    ∷ row (places (emptyContact .points)) (255 ∷ 255 ∷ 255 ∷ 255 ∷ [])
     -- "each pick's place filled by the last candidate."
     ∷ row (without 0 (10 ∷ 11 ∷ 12 ∷ 13 ∷ []) 1) (10 ∷ 13 ∷ 12 ∷ []) ∷ row (without 0 (10 ∷ 11 ∷ 12 ∷ 13 ∷ []) 3) (10 ∷ 11 ∷ 12 ∷ [])
     ∷ is (standing 4 1 1) 3 ∷ is (standing 4 1 2) 2 ∷ row (taken 0 (1 ∷ 1 ∷ 1 ∷ []) (10 ∷ 11 ∷ 12 ∷ 13 ∷ [])) (11 ∷ 13 ∷ 12 ∷ [])
@@ -182,14 +197,16 @@ table =
     ∷ is (bits (triangleOf up o (vec 0x3f80_0000 0 0) o .sign)) 0x3f80_0000
     ∷ is (bits (triangleOf up o (vec 0x3f80_0000 0 0) (vec 0 0x8000_0001 0) .sign)) 0xbf80_0000
     -- "Places at or above the count are zero, and so is the normal when the count is 0."
-    ∷ is (bits (contactOf up [] .normal .z)) 0 ∷ is (bits (contactOf up (many 1) .normal .z)) 0x3f80_0000
-    ∷ is (length (contactOf up [] .points)) 4 ∷ is (length (contactOf up (many 1) .points)) 4 ∷ is (length (contactOf up (many 4) .points)) 4
+    ∷ is (bits (contactOf up [] .normal .z)) 0 ∷ is (bits (contactOf up (placed (many 1)) .normal .z)) 0x3f80_0000
+    ∷ is (length (contactOf up [] .points)) 4 ∷ is (length (contactOf up (placed (many 1)) .points)) 4
+    ∷ is (length (contactOf up (placed (many 4)) .points)) 4
     ∷ []
 
 pub limits : given table ≡ said table
 unfolding absOf minOf maxOf minIntOf addOf subOf negOf dotOf crossOf lengthSquaredOf mulAddOf mulSubOf planeSeparationOf matrixOf mulMvOf flipOf turns
     until ring vertexAt planeAt cornerIn cornersIn packedOf clippedOf meetingOf leavingOf enteringOf putOutOf flatterOf lowerFaceOf builtOf goesOn imageOf
     leastSeparationOf touchingOf betterPickOf asGoodOf reachOf firstTurn acrossOf spreadOf signedAreaOf sideOf outsideOf triangleOf without standing taken
-    firstBest secondBest thirdBest fourthBest fourthPicks thirdPicks secondPicks firstPicks allOrPicked pointsOf numbered placesOf pointOf normalOf
-    contactOf carriedOf onFace touchedOf Ieee.size Ieee.ofBits toBits Ieee.lt Ieee.le Ieee.neg Ieee.sub Ieee.div Ieee.add Ieee.mul
+    firstBest secondBest thirdBest fourthBest fourthPicks thirdPicks secondPicks firstPicks allOrPicked pointsOf numbered placesOf pointOf placedFrom
+    normalOf contactOf arbitraryPerpOf imagesOn picksOn carriedOf contactOnA contactOnB onFace touchedOf Ieee.size Ieee.ofBits toBits Ieee.lt Ieee.le
+    Ieee.neg Ieee.sub Ieee.div Ieee.add Ieee.mul
 limits = refl

@@ -3,13 +3,16 @@ use mathlib.Core.Path.{_≡_, refl}
 use mathlib.Core.List.{List, [], _∷_}
 use Prim.Native.Nat.{ℕ}
 use lib.IntN.{ℤ, pos, negsuc}
-use lib.ListN.{length, getD, take, set, replicate}
+use lib.ListN.{length, take, drop, set, replicate}
 use lib.Ieee.{toBits}
 use lib.Ieee as Ieee
 use Rattle.root.specs.Root.{isqrt, pattern, rootOf}
 use Rattle.vector.specs.Rounded.{float}
+use Rattle.vector.specs.Arithmetic.{zeroVec}
+use Rattle.manifold.specs.declared.Point.{Point}
+use Rattle.manifold.specs.declared.Contact.{Contact}
 use Rattle.manifold.specs.declared.SatCache.{SatCache}
-use Rattle.manifold.specs.Records.{emptyContact}
+use Rattle.manifold.specs.Records.{zeroPair, emptyContact}
 use Rattle.manifold.specs.Pairs.{flipOf}
 use Rattle.hull_links.specs.Tests.{_&_, _or_, all, firstBroken}
 use Rattle.hull_links.specs.Rules.{h1}
@@ -40,6 +43,17 @@ away (negsuc n) = 1 ∷ n ∷ []
 -- a cache of any bits
 abbrev cache : SatCache
 cache = record { separation = 0x7f80_0001; kind = 255; «index_a» = 3; «index_b» = 4; hit = 1 }
+
+-- four points of which only the candidates' places are not 0
+abbrev pointAt : ℕ → Point
+pointAt place = record { position = zeroVec; separation = float 0; pair = zeroPair; place = place }
+
+abbrev placedAt : (a b c d : ℕ) → Contact
+placedAt a b c d = record { points = pointAt a ∷ pointAt b ∷ pointAt c ∷ pointAt d ∷ []; normal = zeroVec; count = 4 }
+
+-- the bytes of an answer behind its points, with a mark of 7
+abbrev behindPoints : Contact → List ℕ
+behindPoints contact = drop 103 (answerBytes (accepted 7 contact cache))
 
 -- a frame of kind 12 with this capacity and so many zeros behind it: 96 of them are a cache, a transform and two hulls of nothing
 abbrev call : ℕ → ℕ → List ℕ
@@ -86,15 +100,16 @@ table =
     ∷ row (frameAnswer (0x11 ∷ 0 ∷ 3 ∷ 1 ∷ 9 ∷ [])) (0x91 ∷ 0 ∷ 9 ∷ 1 ∷ 3 ∷ [])
     ∷ row (answer (0x11 ∷ 0 ∷ 3 ∷ 1 ∷ [])) (fault 0x23) ∷ row (answer (0x11 ∷ 0 ∷ 3 ∷ 1 ∷ 9 ∷ 0 ∷ [])) (fault 0x23)
     ∷ row (answer (0x11 ∷ 0 ∷ 3 ∷ 2 ∷ 9 ∷ [])) (fault 0x08) ∷ row (answer (0x11 ∷ 2 ∷ 3 ∷ 0 ∷ 9 ∷ [])) (fault 0x08)
-    -- "Answer: 92, status (a byte: 0 or the refusal), .. 103 bytes in all.", and the mark, "a last byte in frame 92"; "length (a hull's by its V, H, F as
-    -- sent)"
-    ∷ is (length (answerBytes (accepted 0 emptyContact cache))) 104 ∷ is (getD (answerBytes (accepted 7 emptyContact cache)) 103 0) 7
-    ∷ row (answer (call 3 96)) (104 ∷ 0x92 ∷ 0 ∷ []) ∷ row (answer (call 4 96)) (104 ∷ 0x92 ∷ 1 ∷ [])
+    -- "Answer: 92, status (a byte: 0 or the refusal), .. 103 bytes in all.", then the four places, and the mark, "a last byte in frame 92"; "length (a
+    -- hull's by its V, H, F as sent)"
+    ∷ is (length (answerBytes (accepted 0 emptyContact cache))) 108
+    ∷ row (behindPoints emptyContact) (255 ∷ 255 ∷ 255 ∷ 255 ∷ 7 ∷ []) ∷ row (behindPoints (placedAt 9 4 2 6)) (9 ∷ 4 ∷ 2 ∷ 6 ∷ 7 ∷ [])
+    ∷ row (answer (call 3 96)) (108 ∷ 0x92 ∷ 0 ∷ []) ∷ row (answer (call 4 96)) (108 ∷ 0x92 ∷ 1 ∷ [])
     ∷ row (answer (call 3 95)) (fault 0x23) ∷ row (answer (call 3 97)) (fault 0x23)
     -- hull A of one vertex asks for 49 bytes more, of one half-edge for 4, of one face for 17; hull B likewise
-    ∷ row (answer (set (call 3 96) 42 1)) (fault 0x23) ∷ row (answer (set (call 3 145) 42 1)) (104 ∷ 0x92 ∷ 0 ∷ [])
-    ∷ row (answer (set (call 3 100) 44 1)) (104 ∷ 0x92 ∷ 0 ∷ []) ∷ row (answer (set (call 3 113) 46 1)) (104 ∷ 0x92 ∷ 0 ∷ [])
-    ∷ row (answer (set (call 3 145) 72 1)) (104 ∷ 0x92 ∷ 0 ∷ []) ∷ row (answer (set (call 3 144) 72 1)) (fault 0x23)
+    ∷ row (answer (set (call 3 96) 42 1)) (fault 0x23) ∷ row (answer (set (call 3 145) 42 1)) (108 ∷ 0x92 ∷ 0 ∷ [])
+    ∷ row (answer (set (call 3 100) 44 1)) (108 ∷ 0x92 ∷ 0 ∷ []) ∷ row (answer (set (call 3 113) 46 1)) (108 ∷ 0x92 ∷ 0 ∷ [])
+    ∷ row (answer (set (call 3 145) 72 1)) (108 ∷ 0x92 ∷ 0 ∷ []) ∷ row (answer (set (call 3 144) 72 1)) (fault 0x23)
     -- "capacity is signed"
     ∷ row (away (signed 0x7fff_ffff)) (0 ∷ 0x7fff_ffff ∷ []) ∷ row (away (signed 0x8000_0000)) (1 ∷ 0x7fff_ffff ∷ [])
     ∷ row (away (signed 0xffff_ffff)) (1 ∷ 0 ∷ [])

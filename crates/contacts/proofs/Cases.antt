@@ -24,10 +24,10 @@ use Rattle.clip_corners.proofs.Results.{too-many, all-corners}
 use Rattle.clip.specs.Candidates.{candidatesOf}
 use Rattle.reduce_scores.specs.Images.{imageOf, leastSeparationOf, touchingOf}
 use Rattle.reduce_points.specs.Points.{contactOf}
-use Rattle.reduce.specs.Reduce.{pointsOf}
+use Rattle.reduce.specs.Reduce.{firstPicks, pointsOf}
 use Rattle.collide_outcome.specs.declared.Built.{Built}
 use Rattle.collide_outcome.specs.Builds.{touchedOf, missed, refusedAt}
-use Rattle.contacts.specs.Faces.{pointsFrom, contactOnA, onFace, faceAOf}
+use Rattle.contacts.specs.Faces.{imagesOn, picksOn, contactOnA, onFace, faceAOf}
 
 -- ---- the three cases of `onFace`
 module _ (contact : Contact) (kind a b : ℕ) (l : List ClipVertex) where
@@ -65,9 +65,9 @@ module _ (p : Polygon) (normal : Vec3) (face vertex : ℕ) (h : p .count ≤ 64)
 
   pub builds-one : t ≡ true → (points : Polygon) (direction : Vec3) (contact : Contact) → points ≡ polygonOf (map (imageOf normal) (cornersOf p))
       → direction ≡ arbitraryPerpOf normal
-      → contact ≡ contactOf normal (pointsOf direction normal (cornersOf points))
+      → contact ≡ contactOf normal (pointsOf (firstPicks direction normal (cornersOf points)) (cornersOf points))
       → (r : Built) → r ≡ touchedOf contact least 2 face vertex → r ≡ onFace (contactOnA normal (cornersOf p)) 2 face vertex (cornersOf p)
-  unfolding pointsFrom contactOnA
+  unfolding imagesOn picksOn contactOnA
   builds-one q points direction contact e d k r is =
       let all : cornersOf points ≡ map (imageOf normal) (cornersOf p) = ap cornersOf e ∙ corners-polygon (map (imageOf normal) (cornersOf p)) in
       let this : contact ≡ contactOnA normal (cornersOf p) = k ∙ rw (all, d) in

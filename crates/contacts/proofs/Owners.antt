@@ -1,10 +1,10 @@
 -- Every candidate, and so every image and every point, names shape A or shape B twice in its pair: no flip of one is refused. Assumes nothing.
 use Prim.Native.Nat.{ℕ, zero, suc, _≤_, _<_}
-use mathlib.Core.Path.{_≡_, refl, subst, sym}
+use mathlib.Core.Path.{_≡_, refl, ap, _∙_}
 use mathlib.Core.List.{List, [], _∷_, _++_, map}
 use native.Mathlib.Nat.{not-suc-le-zero}
 use native.Mathlib.Omega.{arith}
-use lib.ListN.{length, take, getD}
+use lib.ListN.{length, take, getD, length-map}
 use lib.Ieee.{Float}
 use borrow.Author.Tests.{le-ltb}
 use Rattle.bounds.proofs.Laws.{picked}
@@ -16,18 +16,20 @@ use Rattle.vector.specs.Awaited.{arbitraryPerpOf}
 use Rattle.rotation.specs.Rotation.{matrixOf, invRotateOf}
 use Rattle.manifold.specs.declared.FeaturePair.{FeaturePair}
 use Rattle.manifold.specs.declared.ClipVertex.{ClipVertex}
-use Rattle.manifold.specs.Records.{zeroVertex, pastVertex}
+use Rattle.manifold.specs.declared.Point.{Point}
+use Rattle.manifold.specs.Records.{zeroVertex, pastVertex, pastPoint}
 use Rattle.manifold.specs.Pairs.{ownerOf, pairOf, flipOf}
 use Rattle.hull_links.specs.declared.HullSize.{HullSize}
 use Rattle.hull_links.specs.Links.{faceRing}
 use Rattle.hull.specs.Numbers.{planeAt}
 use Rattle.reduce_scores.specs.Images.{imageOf}
-use Rattle.reduce.specs.Reduce.{placesOf}
-use Rattle.reduce.proofs.Chosen.{chosen}
+use Rattle.reduce_points.specs.Points.{pointOf}
+use Rattle.reduce.specs.Reduce.{pointsOf, placesOf}
+use Rattle.reduce.proofs.Chosen.{chosen, at-map}
 use Rattle.clip_cut.specs.Cut.{kept, beyond, leavingOf, enteringOf, putOutOf, cutFrom, lastOf, cutOf}
 use Rattle.clip_incident.specs.Incident.{incidentFaceOf}
 use Rattle.clip.specs.Candidates.{taggedOf, cornerOf, builtOf, cutOn, goesOn, cutRound, candidatesOf}
-use Rattle.contacts.specs.Faces.{pointsFrom}
+use Rattle.contacts.specs.Faces.{imagesOn, picksOn}
 
 -- ---- pairs whose owners are 0 or 1
 pub record Owned (p : FeaturePair) : Type 0 where
@@ -130,20 +132,18 @@ module _ (s : HullSize) (n : List Float) (l : List ℕ) (t : HullSize) (m : List
     images-flip i h = flips (getD images i pastVertex .pair) (owned-at images pastVertex i images-owned h)
 
     -- nor that of a point, which is an image
-    points-owned : AllOwned (pointsFrom normal all)
-    unfolding pointsFrom
-    points-owned =
-        let direction = arbitraryPerpOf normal in
-        let c = chosen direction normal images in
-        subst AllOwned (sym (c .same))
-        (each (placesOf direction normal images) (λ i h. owned-at images pastVertex (getD (placesOf direction normal images) i 0) images-owned
-        (c .below i h)))
-      where
-        each : (js : List ℕ) → ((i : ℕ) → i < length js → Owned (getD images (getD js i 0) pastVertex .pair))
-            → AllOwned (map (λ (j : ℕ). getD images j pastVertex) js)
-        each [] a = tt
-        each (j ∷ js) a = (a 0 (omega arith), each js (λ i h. a (suc i) (omega arith)))
+    abbrev points : List Point
+    points = pointsOf (picksOn normal all) images
 
-    pub points-flip : (i : ℕ) → i < length (pointsFrom normal all)
-        → flipOf (getD (pointsFrom normal (candidatesOf s n l t m k x f v)) i pastVertex .pair) .status ≡ 0
-    points-flip i h = flips (getD (pointsFrom normal all) i pastVertex .pair) (owned-at (pointsFrom normal all) pastVertex i points-owned h)
+    pub points-flip : (i : ℕ) → i < length (pointsOf (picksOn normal all) images)
+        → flipOf (getD (pointsOf (picksOn normal (candidatesOf s n l t m k x f v)) images) i pastPoint .pair) .status ≡ 0
+    unfolding picksOn imagesOn pointOf
+    points-flip i h =
+        let c = chosen (arbitraryPerpOf normal) normal images images refl in
+        let places = placesOf (picksOn normal all) (length images) in
+        let at : ℕ → Point = λ j. pointOf j (getD images j pastVertex) in
+        let long : length points ≡ length places = ap length (c .same) ∙ length-map places at in
+        let low : i < length places = omega (arith, long, h) in
+        let is : getD points i pastPoint ≡ at (getD places i 0) =
+        ap (λ (ps : List Point). getD ps i pastPoint) (c .same) ∙ at-map at 0 pastPoint places i low in
+        rw is (flips (getD images (getD places i 0) pastVertex .pair) (owned-at images pastVertex (getD places i 0) images-owned (c .below i low)))

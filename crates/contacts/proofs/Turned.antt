@@ -1,4 +1,4 @@
--- A contact carried place by place is the contact of the carried points, and a contact on a face of B is one on a face of A, carried. Assumes nothing.
+-- A contact carried point by point is the contact of the carried images, and a contact on a face of B is one on a face of A, carried. Assumes nothing.
 use Prim.Native.Nat.{ℕ, _≤_}
 use mathlib.Core.Path.{_≡_, refl, sym, ap, _∙_}
 use mathlib.Core.Bool.{Bool, true, false, cond, false≢true}
@@ -13,22 +13,27 @@ use Rattle.vector.specs.Arithmetic.{negOf}
 use Rattle.vector.specs.Awaited.{arbitraryPerpOf}
 use Rattle.rotation.specs.Rotation.{matrixOf, mulMvOf, invertOf}
 use Rattle.manifold.specs.declared.ClipVertex.{ClipVertex}
+use Rattle.manifold.specs.declared.Point.{Point}
 use Rattle.manifold.specs.declared.Contact.{Contact}
 use Rattle.hull_links.specs.declared.HullSize.{HullSize}
 use Rattle.hull.specs.Numbers.{planeAt}
-use Rattle.reduce_scores.specs.Images.{imageOf, leastSeparationOf, touchingOf}
+use Rattle.reduce_scores.specs.Images.{leastSeparationOf, touchingOf}
 use Rattle.reduce_points.specs.Points.{pointOf, normalOf, contactOf}
-use Rattle.reduce.proofs.Chosen.{chosen}
+use Rattle.reduce.specs.Reduce.{firstPicks, pointsOf}
+use Rattle.reduce.proofs.Chosen.{chosen, points-map}
 use Rattle.clip.specs.Candidates.{candidatesOf}
 use Rattle.collide_outcome.specs.declared.Built.{Built}
 use Rattle.collide_outcome.specs.Builds.{touchedOf, missed, refusedAt}
-use Rattle.contacts.specs.Faces.{pointsFrom, carriedOf, contactOnA, contactOnB, onFace, faceAOf, faceBOf}
-use Rattle.contacts.specs.inner.Carried.{carriedPoint, carriedPlace, carriedContact}
+use Rattle.contacts.specs.Faces.{imagesOn, picksOn, carriedOf, contactOnA, contactOnB, onFace, faceAOf, faceBOf}
+use Rattle.contacts.specs.inner.Carried.{carriedPoint, carriedIfUsed, carriedContact}
 
 -- ---- four points or fewer, carried
-carried-few : (x : Transform) (normal : Vec3) (l : List ClipVertex) → length l ≤ 4
-    → carriedContact x (contactOf normal l) ≡ contactOf (negOf (mulMvOf (matrixOf (x .q)) normal)) (map (carriedOf x) l)
-unfolding carriedPoint carriedPlace carriedContact carriedOf pointOf normalOf contactOf
+abbrev carry : Transform → Point → Point
+carry x = carriedPoint (matrixOf (x .q)) (x .p)
+
+carried-few : (x : Transform) (normal : Vec3) (l : List Point) → length l ≤ 4
+    → carriedContact x (contactOf normal l) ≡ contactOf (negOf (mulMvOf (matrixOf (x .q)) normal)) (map (carry x) l)
+unfolding carriedIfUsed carriedContact normalOf contactOf
 carried-few x normal [] h = refl
 carried-few x normal (a ∷ []) h = refl
 carried-few x normal (a ∷ b ∷ []) h = refl
@@ -36,9 +41,18 @@ carried-few x normal (a ∷ b ∷ c ∷ []) h = refl
 carried-few x normal (a ∷ b ∷ c ∷ d ∷ []) h = refl
 carried-few x normal (a ∷ b ∷ c ∷ d ∷ e ∷ l) h = absurd (omega arith)
 
+-- a point that is carried is the point of the carried image, at the same place
+carry-point : (x : Transform) (j : ℕ) (v : ClipVertex) → carry x (pointOf j v) ≡ pointOf j (carriedOf x v)
+unfolding carriedPoint carriedOf pointOf
+carry-point x j v = refl
+
 pub carried-on-b : (x : Transform) (normal : Vec3) (l : List ClipVertex) → carriedContact x (contactOnA normal l) ≡ contactOnB x normal l
-unfolding pointsFrom contactOnA contactOnB
-carried-on-b x normal l = carried-few x normal (pointsFrom normal l) (chosen (arbitraryPerpOf normal) normal (map (imageOf normal) l) .few)
+unfolding picksOn contactOnA contactOnB
+carried-on-b x normal l =
+    let direction = arbitraryPerpOf normal in
+    let images = imagesOn normal l in
+    carried-few x normal (pointsOf (firstPicks direction normal images) images) (chosen direction normal images images refl .few)
+    ∙ ap (contactOf (negOf (mulMvOf (matrixOf (x .q)) normal))) (points-map direction normal images (carriedOf x) (carry x) (carry-point x))
 
 -- ---- faces of A and of B: the same three tests
 abbrev side : Bool → Bool → Bool → Contact → Float → ℕ → ℕ → ℕ → Built

@@ -1,5 +1,5 @@
--- The contact of a pair of edges: "the edge pair's one point is its own candidate and image". Definitions only; `line_distance` and
--- `is_within_segments` are awaited and go by their names.
+-- The contact of a pair of edges: "the edge pair's one point is its own candidate and image", and "An edge point has place 0" (document 02, d).
+-- Definitions only; `line_distance` and `is_within_segments` are awaited and go by their names.
 use Prim.Native.Nat.{ℕ}
 use mathlib.Core.Bool.{cond}
 use mathlib.Core.List.{List, [], _∷_}
@@ -17,7 +17,7 @@ use Rattle.manifold.specs.Pairs.{pairOf}
 use Rattle.hull_links.specs.declared.HullSize.{HullSize}
 use Rattle.hull_links.specs.Links.{twin, origin}
 use Rattle.hull.specs.Numbers.{vertexAt}
-use Rattle.reduce_points.specs.Points.{contactOf}
+use Rattle.reduce_points.specs.Points.{pointOf, contactOf}
 use Rattle.collide_outcome.specs.declared.Built.{Built}
 use Rattle.collide_outcome.specs.Builds.{touchedOf, missed}
 
@@ -34,7 +34,7 @@ edgePoint nearest normal a b =
 unfoldable pub alongOf : LineDistance → Vec3 → ℕ → ℕ → Built
 alongOf nearest normal a b =
     let point = edgePoint nearest normal a b in
-    cond (isWithinSegmentsOf nearest) (touchedOf (contactOf normal (point ∷ [])) (point .separation) 4 a b) missed
+    cond (isWithinSegmentsOf nearest) (touchedOf (contactOf normal (pointOf 0 point ∷ [])) (point .separation) 4 a b) missed
 
 -- where the lines of half-edge a of A and half-edge b of B, carried into A's frame, lie nearest
 unfoldable pub nearestOf : HullSize → List Float → List ℕ → HullSize → List Float → List ℕ → Transform → ℕ → ℕ → LineDistance

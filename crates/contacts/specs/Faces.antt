@@ -1,6 +1,6 @@
 -- The contact on a face: "A candidate's image is its position less half its separation along the reference normal, with its separation and pair; for
--- face B it is then carried into A's frame and its pair flipped." Definitions only; the candidates are in the specs of `clip`, images and picks in
--- those of `reduce_scores` and `reduce`.
+-- face B it is then carried into A's frame and its pair flipped." Each point says the place of its candidate: "the face contacts hand it up" (document
+-- 02, d). Definitions only; the candidates are in the specs of `clip`, images and picks in those of `reduce_scores` and `reduce`.
 use Prim.Native.Nat.{ℕ}
 use mathlib.Core.Bool.{cond}
 use mathlib.Core.List.{List, map}
@@ -19,28 +19,32 @@ use Rattle.hull_links.specs.declared.HullSize.{HullSize}
 use Rattle.hull.specs.Numbers.{planeAt}
 use Rattle.reduce_scores.specs.Images.{imageOf, leastSeparationOf, touchingOf}
 use Rattle.reduce_points.specs.Points.{contactOf}
-use Rattle.reduce.specs.Reduce.{pointsOf}
+use Rattle.reduce.specs.Reduce.{firstPicks, pointsOf}
 use Rattle.clip.specs.Candidates.{candidatesOf}
 use Rattle.collide_outcome.specs.declared.Built.{Built}
 use Rattle.collide_outcome.specs.Builds.{touchedOf, missed, refusedAt}
 
--- ---- points
--- of these candidates of a face with this normal, in the face's own frame: all images of four or fewer, else the picks
-unfoldable pub pointsFrom : Vec3 → List ClipVertex → List ClipVertex
-pointsFrom normal candidates = pointsOf (arbitraryPerpOf normal) normal (map (imageOf normal) candidates)
+-- ---- images and picks, in the frame of a face with this normal
+unfoldable pub imagesOn : Vec3 → List ClipVertex → List ClipVertex
+imagesOn normal candidates = map (imageOf normal) candidates
 
--- a point of B's frame carried into A's, and its pair flipped
+-- by the scores of the images there
+unfoldable pub picksOn : Vec3 → List ClipVertex → List ℕ
+picksOn normal candidates = firstPicks (arbitraryPerpOf normal) normal (imagesOn normal candidates)
+
+-- an image of B's frame carried into A's, and its pair flipped
 unfoldable pub carriedOf : Transform → ClipVertex → ClipVertex
 carriedOf x v = record { position = addOf (mulMvOf (matrixOf (x .q)) (v .position)) (x .p); separation = v .separation; pair = flipOf (v .pair) .pair }
 
 -- ---- contacts
 -- on a face of A with this normal
 unfoldable pub contactOnA : Vec3 → List ClipVertex → Contact
-contactOnA normal candidates = contactOf normal (pointsFrom normal candidates)
+contactOnA normal candidates = contactOf normal (pointsOf (picksOn normal candidates) (imagesOn normal candidates))
 
--- on a face of B: the normal is turned, so that it points from A to B
+-- on a face of B: the picks are made in B's frame; the normal is turned, so that it points from A to B
 unfoldable pub contactOnB : Transform → Vec3 → List ClipVertex → Contact
-contactOnB x normal candidates = contactOf (negOf (mulMvOf (matrixOf (x .q)) normal)) (map (carriedOf x) (pointsFrom normal candidates))
+contactOnB x normal candidates =
+    contactOf (negOf (mulMvOf (matrixOf (x .q)) normal)) (pointsOf (picksOn normal candidates) (map (carriedOf x) (imagesOn normal candidates)))
 
 -- "6: a cut would put out a 65th vertex"; "Fewer than 3 left, or least separation at or above speculative: not touching, cache cleared"; else this
 -- contact, and an axis of this type with the least separation and these numbers

@@ -34,7 +34,7 @@ fn along(nearest: LineDistance, normal: Vec3, edge_a: u8, edge_b: u8) -> Built
         pair: make_feature_pair(FeatureOwner::ShapeA, edge_a, FeatureOwner::ShapeB, edge_b),
     };
     touched(
-        reduce_points::one_point(point, normal),
+        reduce_points::one_point(reduce_points::point_of(0, point), normal),
         separation,
         4,
         edge_a,

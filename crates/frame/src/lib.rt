@@ -1,5 +1,5 @@
 // The answer to one frame of bytes, and to one line of characters, exactly as document 01's section "The hex program" has them (specs/Frames.antt,
-// specs/Lines.antt). A frame is 1 to any number of bytes, its kind first; an answer is 2, 5 or 104.
+// specs/Lines.antt). A frame is 1 to any number of bytes, its kind first; an answer is 2, 5 or 108.
 pub mod lines;
 
 ghost use Prim.Native.Nat.{_≤_};

@@ -40,7 +40,7 @@ abbrev pub headBytes : Answer → List ℕ
 headBytes a =
     0x92 ∷ a .outcome .status ∷ (cacheBytes (a .cache) ++ (a .outcome .contact .count ∷ vecBytes (a .outcome .contact .normal)))
 
--- place i of the four
+-- point i of the four
 abbrev pub pointAt : Contact → ℕ → Point
 pointAt k i = getD (k .points) i pastPoint
 
@@ -48,10 +48,14 @@ pointAt k i = getD (k .points) i pastPoint
 abbrev pub pointsBytes : Contact → List ℕ
 pointsBytes k = pointBytes (pointAt k 0) ++ (pointBytes (pointAt k 1) ++ (pointBytes (pointAt k 2) ++ pointBytes (pointAt k 3)))
 
--- and "a last byte in frame 92", the mark that a retired type was read (document 02, j)
-unfoldable pub answerBytes : Answer → List ℕ
-answerBytes a = (headBytes a ++ pointsBytes (a .outcome .contact)) ++ (a .outcome .retired ∷ [])
+-- "Frame 92 gains four bytes at its end" (document 02, d): which candidate each of the four points came from
+abbrev pub placesBytes : Contact → List ℕ
+placesBytes k = pointAt k 0 .place ∷ pointAt k 1 .place ∷ pointAt k 2 .place ∷ pointAt k 3 .place ∷ []
 
--- "103 bytes in all", and the mark: no answer is longer
+-- and behind them "a last byte in frame 92", the mark that a retired type was read (document 02, j)
+unfoldable pub answerBytes : Answer → List ℕ
+answerBytes a = ((headBytes a ++ pointsBytes (a .outcome .contact)) ++ placesBytes (a .outcome .contact)) ++ (a .outcome .retired ∷ [])
+
+-- "103 bytes in all", the four places and the mark: no answer is longer
 abbrev pub longestAnswer : ℕ
-longestAnswer = 104
+longestAnswer = 108

@@ -5,7 +5,7 @@ ghost use mathlib.Core.List.{[], _∷_};
 ghost use lib.ListN.{length};
 ghost use Rattle.frame_encode.specs.Written.{Wrote};
 ghost use Rattle.frame_encode.specs.Bytes.{bytes32, floatBytes, vecBytes, pairBytes, pointBytes, pointsBytes, cacheBytes, headBytes, longestAnswer};
-ghost use Rattle.frame_encode.specs.Bytes.{answerBytes};
+ghost use Rattle.frame_encode.specs.Bytes.{placesBytes, answerBytes};
 use manifold::Answer;
 use manifold::Contact;
 use manifold::FeaturePair;
@@ -15,7 +15,7 @@ use manifold::bits::bits_of;
 use vector::Vec3;
 
 // How many bytes the longest answer has: that to a call.
-pub const LONGEST_ANSWER: usize = 104;
+pub const LONGEST_ANSWER: usize = 108;
 
 pub fn put_byte(out: &mut [u8], at: usize, b: u8)
     requires { ⌜ at + 1 ≤ length (now out) ⌝ }
@@ -98,7 +98,7 @@ fn put_head(out: &mut [u8], a: Answer)
     put_vec(out, 11, normal);
 }
 
-// The four places of points, those at and above the count too.
+// The four points, unused ones too.
 fn put_points(out: &mut [u8], k: Contact)
     requires { ⌜ longestAnswer ≤ length (now out) ⌝ }
     ensures { λ _. ⌜ Wrote (now (out .entry)) 23 (pointsBytes k) (now (out .exit)) ⌝ }
@@ -114,7 +114,19 @@ fn put_points(out: &mut [u8], k: Contact)
     put_point(out, 83, fourth);
 }
 
-// The answer to a call: the head, the points, and last the mark of a retired type.
+// Which candidate each of the four points came from.
+fn put_places(out: &mut [u8], k: Contact)
+    requires { ⌜ longestAnswer ≤ length (now out) ⌝ }
+    ensures { λ _. ⌜ Wrote (now (out .entry)) 103 (placesBytes k) (now (out .exit)) ⌝ }
+{
+    let points = k.points;
+    put_byte(out, 103, points[0].place);
+    put_byte(out, 104, points[1].place);
+    put_byte(out, 105, points[2].place);
+    put_byte(out, 106, points[3].place);
+}
+
+// The answer to a call: the head, the points, their candidates' places, and last the mark of a retired type.
 pub fn put_answer(out: &mut [u8], a: Answer)
     requires { ⌜ longestAnswer ≤ length (now out) ⌝ }
     ensures { λ _. ⌜ Wrote (now (out .entry)) 0 (answerBytes a) (now (out .exit)) ⌝ }
@@ -122,5 +134,6 @@ pub fn put_answer(out: &mut [u8], a: Answer)
     put_head(out, a);
     let contact = a.outcome.contact;
     put_points(out, contact);
-    put_byte(out, 103, a.outcome.retired);
+    put_places(out, contact);
+    put_byte(out, 107, a.outcome.retired);
 }

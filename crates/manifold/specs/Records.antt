@@ -1,4 +1,5 @@
--- The records with nothing in them: "Places at or above the count are zero, and so is the normal when the count is 0." Definitions only.
+-- The records with nothing in them: "Places at or above the count are zero, and so is the normal when the count is 0"; of a point that is not there
+-- the candidate's place is 255 (document 02, d: "unused places 255"). Definitions only.
 use Prim.Native.Nat.{ℕ}
 use lib.ListN.{replicate}
 use lib.Ieee.{nan}
@@ -18,16 +19,17 @@ zeroPair = record { owner1 = 0; index1 = 0; owner2 = 0; index2 = 0 }
 abbrev pub zeroVertex : ClipVertex
 zeroVertex = record { position = zeroVec; separation = float 0; pair = zeroPair }
 
-abbrev pub zeroPoint : Point
-zeroPoint = record { position = zeroVec; separation = float 0; pair = zeroPair }
+-- no point
+abbrev pub unusedPoint : Point
+unusedPoint = record { position = zeroVec; separation = float 0; pair = zeroPair; place = 255 }
 
 -- no corners, 64 zero places
 abbrev pub emptyPolygon : Polygon
 emptyPolygon = record { vertices = replicate 64 zeroVertex; count = 0 }
 
--- no points, four zero places, a zero normal
+-- no points, a zero normal
 abbrev pub emptyContact : Contact
-emptyContact = record { points = replicate 4 zeroPoint; normal = zeroVec; count = 0 }
+emptyContact = record { points = replicate 4 unusedPoint; normal = zeroVec; count = 0 }
 
 -- the cache cleared
 abbrev pub emptyCache : SatCache
@@ -42,4 +44,4 @@ abbrev pub pastVertex : ClipVertex
 pastVertex = record { position = pastVec; separation = nan; pair = zeroPair }
 
 abbrev pub pastPoint : Point
-pastPoint = record { position = pastVec; separation = nan; pair = zeroPair }
+pastPoint = record { position = pastVec; separation = nan; pair = zeroPair; place = 0 }

@@ -48,14 +48,17 @@ pub struct Polygon {
     pub count: usize,
 }
 
+// A point of a contact. `place` says which candidate it came from: the candidate's place in the list as it stood before any pick, 0 for the one
+// candidate of a pair of edges, 255 where there is no point.
 #[repr(C)]
 pub struct Point {
     pub position: Vec3,
     pub separation: f32,
     pub pair: FeaturePair,
+    pub place: u8,
 }
 
-// At most four points; the places at and above the count are zero, and so is the normal where the count is 0.
+// At most four points; those at and above the count are unused, and the normal is zero where the count is 0.
 #[repr(C)]
 pub struct Contact {
     pub points: [Point; MAX_MANIFOLD_POINTS],

@@ -1,6 +1,6 @@
 // The records with nothing in them.
 ghost use mathlib.Core.Path.{_≡_};
-ghost use Rattle.manifold.specs.Records.{zeroVertex, zeroPoint, emptyPolygon, emptyContact, emptyCache, hitSet};
+ghost use Rattle.manifold.specs.Records.{zeroVertex, unusedPoint, emptyPolygon, emptyContact, emptyCache, hitSet};
 use crate::ClipVertex;
 use crate::Contact;
 use crate::FeaturePair;
@@ -36,8 +36,9 @@ pub fn empty_polygon() -> Polygon
     Polygon { vertices, count: 0 }
 }
 
-pub fn zero_point() -> Point
-    ensures { λ r. ⌜ r ≡ zeroPoint ⌝ }
+// No point: all zero, and a place that no candidate has.
+pub fn unused_point() -> Point
+    ensures { λ r. ⌜ r ≡ unusedPoint ⌝ }
 {
     Point {
         position: Vec3 {
@@ -52,14 +53,15 @@ pub fn zero_point() -> Point
             owner2: 0,
             index2: 0,
         },
+        place: 255,
     }
 }
 
 pub fn empty_contact() -> Contact
     ensures { λ r. ⌜ r ≡ emptyContact ⌝ }
 {
-    let zero = zero_point();
-    let points = [zero; 4];
+    let unused = unused_point();
+    let points = [unused; 4];
     Contact {
         points,
         normal: Vec3 {

@@ -1,6 +1,6 @@
 -- The same answer so many times: the sum of what it counts. Assumes nothing.
 use Prim.Native.Nat.{ℕ, _+_, _*_, _≤_}
-use mathlib.Core.Path.{_≡_, sym, ap, _∙_, subst}
+use mathlib.Core.Path.{_≡_, refl, sym, ap, _∙_, subst}
 use mathlib.Core.List.{List}
 use native.Mathlib.Nat.{zero-mul, suc-mul}
 use native.Mathlib.Numerals.{add-one}
@@ -9,7 +9,7 @@ use Rattle.vector.specs.declared.Vec3.{Vec3}
 use Rattle.manifold.specs.declared.ClipVertex.{ClipVertex}
 use Rattle.manifold.specs.declared.Contact.{Contact}
 use Rattle.reduce_points.specs.Points.{contactOf}
-use Rattle.reduce.specs.Reduce.{pointsOf}
+use Rattle.reduce.specs.Reduce.{firstPicks, pointsOf}
 use Rattle.reduce.proofs.Chosen.{chosen}
 
 -- i rounds are done
@@ -32,6 +32,6 @@ all-summed k total i n s h l =
     s .sum ∙ ap (λ (x : ℕ). x * k) e
 
 -- a contact has four points at most
-pub four-most : (direction normal : Vec3) (l : List ClipVertex) (c : Contact) → c ≡ contactOf normal (pointsOf direction normal l) → c .count ≤ 4
+pub four-most : (direction normal : Vec3) (l : List ClipVertex) (c : Contact) → c ≡ contactOf normal (pointsOf (firstPicks direction normal l) l) → c .count ≤ 4
 unfolding contactOf
-four-most direction normal l c q = subst (λ (x : Contact). x .count ≤ 4) (sym q) (chosen direction normal l .few)
+four-most direction normal l c q = subst (λ (x : Contact). x .count ≤ 4) (sym q) (chosen direction normal l l refl .few)

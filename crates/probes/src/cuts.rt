@@ -9,7 +9,7 @@ ghost use Rattle.clip_corners.specs.Places.{Roomy, SideBySide, cornersIn, Laid}
 ghost use Rattle.clip_corners.specs.Results.{clippedOf};
 ghost use Rattle.reduce_scores.specs.Images.{imageOf, leastSeparationOf, touchingOf};
 ghost use Rattle.reduce_points.specs.Points.{contactOf};
-ghost use Rattle.reduce.specs.Reduce.{pointsOf};
+ghost use Rattle.reduce.specs.Reduce.{firstPicks, pointsOf};
 ghost use Rattle.clip_incident.specs.Incident.{incidentFaceOf};
 ghost use Rattle.clip.specs.Candidates.{builtOf, candidatesOf};
 use clip_corners::Clipped;
@@ -63,31 +63,31 @@ pub extern "C" fn probe_touching(count: usize, least: f32) -> bool
 
 #[no_mangle]
 pub extern "C" fn probe_reduce_manifold_points(
-    points: Polygon,
+    images: Polygon,
     normal: Vec3,
     direction: Vec3,
 ) -> Contact
-    requires { ⌜ points .count ≤ 64 ⌝ }
-    ensures { λ r. ⌜ r ≡ contactOf normal (pointsOf direction normal (cornersOf points)) ⌝ }
+    requires { ⌜ images .count ≤ 64 ⌝ }
+    ensures { λ r. ⌜ r ≡ contactOf normal (pointsOf (firstPicks direction normal (cornersOf images)) (cornersOf images)) ⌝ }
 {
-    reduce::reduce_manifold_points(points, normal, direction)
+    reduce::reduce_manifold_points(images, normal, direction)
 }
 
 // So many reductions of the same images, and how many points they leave together.
 #[no_mangle]
 pub extern "C" fn probe_reduce_rounds(
-    points: Polygon,
+    images: Polygon,
     normal: Vec3,
     direction: Vec3,
     rounds: usize,
 ) -> usize
-    requires { ⌜ (points .count ≤ 64) × (rounds ≤ 65536) ⌝ }
-    ensures { λ r. ⌜ r ≡ rounds * contactOf normal (pointsOf direction normal (cornersOf points)) .count ⌝ }
+    requires { ⌜ (images .count ≤ 64) × (rounds ≤ 65536) ⌝ }
+    ensures { λ r. ⌜ r ≡ rounds * contactOf normal (pointsOf (firstPicks direction normal (cornersOf images)) (cornersOf images)) .count ⌝ }
 {
     let mut total = 0;
     let mut i = 0;
     while i < rounds {
-        let contact = reduce::reduce_manifold_points(points, normal, direction);
+        let contact = reduce::reduce_manifold_points(images, normal, direction);
         total += contact.count as usize;
         i += 1;
     }

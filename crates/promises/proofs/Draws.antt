@@ -19,18 +19,19 @@ use Rattle.vector.specs.Arithmetic.{negOf}
 use Rattle.vector.specs.Awaited.{arbitraryPerpOf}
 use Rattle.rotation.specs.Rotation.{matrixOf, mulMvOf, invertOf}
 use Rattle.manifold.specs.declared.ClipVertex.{ClipVertex}
+use Rattle.manifold.specs.declared.Point.{Point}
 use Rattle.manifold.specs.declared.SatCache.{SatCache}
 use Rattle.manifold.specs.declared.Contact.{Contact}
 use Rattle.manifold.specs.declared.Answer.{Answer}
 use Rattle.manifold.specs.Limits.{slop}
-use Rattle.manifold.specs.Records.{emptyContact, pastVertex}
+use Rattle.manifold.specs.Records.{emptyContact}
 use Rattle.hull_links.specs.declared.HullSize.{HullSize}
 use Rattle.hull_links.proofs.Tests.{cases}
 use Rattle.hull.specs.Numbers.{planeAt}
 use Rattle.clip.specs.Candidates.{candidatesOf}
 use Rattle.reduce_scores.specs.Images.{imageOf}
-use Rattle.reduce_points.specs.Points.{normalOf, contactOf}
-use Rattle.reduce.specs.Reduce.{pointsOf, placesOf, numbered}
+use Rattle.reduce_points.specs.Points.{pointOf, placedFrom, normalOf, contactOf}
+use Rattle.reduce.specs.Reduce.{firstPicks, pointsOf, placesOf, numbered}
 use Rattle.reduce.specs.Chosen.{Chosen}
 use Rattle.reduce.proofs.Chosen.{chosen}
 use Rattle.axis.specs.declared.Axis.{Axis}
@@ -42,7 +43,7 @@ use Rattle.collide_outcome.specs.declared.Cached.{Cached}
 use Rattle.collide_outcome.specs.Builds.{touchedOf, missed, refusedAt}
 use Rattle.collide_outcome.specs.Served.{nearOf, servedOf, hitWith, noHit}
 use Rattle.collide_outcome.specs.Answers.{answerOf}
-use Rattle.contacts.specs.Faces.{pointsFrom, carriedOf, contactOnA, contactOnB, onFace, faceAOf, faceBOf}
+use Rattle.contacts.specs.Faces.{imagesOn, picksOn, carriedOf, contactOnA, contactOnB, onFace, faceAOf, faceBOf}
 use Rattle.contacts.specs.EdgePairs.{edgePoint, nearestOf, alongOf, edgeContactOf}
 use Rattle.collide_cached.specs.Ridges.{ridgeOf, carriedRidge, crossesOf}
 use Rattle.collide_cached.specs.Again.{cachedFaceAOf, cachedFaceBOf, cachedEdgeOf}
@@ -59,39 +60,23 @@ use Rattle.promises.specs.OneCall.{winnerOf, triedOver, orPair, searchSo
 use Rattle.promises.proofs.Choices.{choice}
 use Rattle.promises.proofs.Statuses.{call-status}
 
--- ---- images that are carried are chosen as before
-pub getD-map : {A B : Type 0} (g : A → B) (d : A) (d′ : B) (vs : List A) (j : ℕ) → j < length vs → g (getD vs j d) ≡ getD (map g vs) j d′
-getD-map g d d′ [] j h = absurd (omega (arith, h))
-getD-map g d d′ (v ∷ vs) zero h = refl
-getD-map g d d′ (v ∷ vs) (suc j) h = getD-map g d d′ vs j (omega (arith, h))
-
-at-places : (g : ClipVertex → ClipVertex) (vs : List ClipVertex) (js : List ℕ) → ((i : ℕ) → i < length js → getD js i 0 < length vs)
-    → map g (map (λ (j : ℕ). getD vs j pastVertex) js) ≡ map (λ (j : ℕ). getD (map g vs) j pastVertex) js
-at-places g vs [] h = refl
-at-places g vs (j ∷ js) h =
-    ap₂ _∷_ (getD-map g pastVertex pastVertex vs j (h 0 (omega arith))) (at-places g vs js (λ i q. h (suc i) (omega (arith, q))))
-
-carried-chosen : (g : ClipVertex → ClipVertex) (images points : List ClipVertex) (places : List ℕ) → Chosen images points places
-    → Chosen (map g images) (map g points) places
-carried-chosen g images points places c =
-    let long : length (map g images) ≡ length images = length-map images g in
-    let many : length (map g points) ≡ length points = length-map points g in
-    record {
-      few = rw many (c .few);
-      same = ap (map g) (c .same) ∙ at-places g images places (c .below);
-      below = λ i h. rw long (c .below i h);
-      apart = c .apart;
-      all = λ h. ap (map g) (c .all (rw (sym long) h));
-      order = λ h. rw long (c .order (rw (sym long) h));
-    }
+-- ---- the points of a face, by the picks that its own frame's images give, of whatever images are as many
+chosen-on : (normal : Vec3) (candidates images : List ClipVertex) → length images ≡ length candidates
+    → Chosen images (pointsOf (picksOn normal candidates) images) (placesOn normal candidates)
+unfolding imagesOn picksOn placesOn
+chosen-on normal candidates images e =
+    let own = map (imageOf normal) candidates in
+    let picks = firstPicks (arbitraryPerpOf normal) normal own in
+    subst (λ (n : ℕ). Chosen images (pointsOf picks images) (placesOf picks n)) e
+    (chosen (arbitraryPerpOf normal) normal own images (e ∙ sym (length-map candidates (imageOf normal))))
 
 map-twice : (g h : ClipVertex → ClipVertex) (vs : List ClipVertex) → map g (map h vs) ≡ map (λ v. g (h v)) vs
 map-twice g h [] = refl
 map-twice g h (v ∷ vs) = ap (λ l. g (h v) ∷ l) (map-twice g h vs)
 
 -- one point of one image
-one-chosen : (v : ClipVertex) → Chosen (v ∷ []) (v ∷ []) (0 ∷ [])
-unfolding numbered
+one-chosen : (v : ClipVertex) → Chosen (v ∷ []) (pointOf 0 v ∷ []) (0 ∷ [])
+unfolding placedFrom numbered
 one-chosen v =
     record {
       few = omega arith;
@@ -107,7 +92,7 @@ one-chosen v =
     at-first (suc i) h = absurd (omega (arith, h))
 
 none-chosen : Chosen [] [] []
-unfolding numbered
+unfolding placedFrom numbered
 none-chosen = record {
   few = omega arith;
   same = refl;
@@ -128,23 +113,29 @@ module _ (s : HullSize) (n : List Float) (l : List ℕ) (t : HullSize) (m : List
   Full = fullSource s n l t m k x
 
   -- ---- the points of a source are chosen from its images
-  -- of face B: its own images, then carried
+  own-a : (f v : ℕ) → let normal = planeAt s n f .normal in let candidates = candidatesOf s n l t m k x f v in
+      Chosen (imagesFrom s n l t m k x (face-a f v)) (pointsOf (picksOn normal candidates) (imagesOn normal candidates))
+      (placesFrom s n l t m k x (face-a f v))
+  unfolding imagesFrom imageFrom candidatesFrom placesFrom imagesOn
+  own-a f v =
+      let normal = planeAt s n f .normal in
+      let candidates = candidatesOf s n l t m k x f v in
+      chosen-on normal candidates (map (imageOf normal) candidates) (length-map candidates (imageOf normal))
+
+  -- of face B: its own images, carried
   carried-b : (f v : ℕ) → let normal = planeAt t m f .normal in let candidates = candidatesOf t m k s n l (invertOf x) f v in
-      Chosen (imagesFrom s n l t m k x (face-b f v)) (map (carriedOf x) (pointsFrom normal candidates)) (placesFrom s n l t m k x (face-b f v))
-  unfolding imagesFrom imageFrom candidatesFrom placesFrom placesOn pointsFrom
+      Chosen (imagesFrom s n l t m k x (face-b f v)) (pointsOf (picksOn normal candidates) (map (carriedOf x) (imagesOn normal candidates)))
+      (placesFrom s n l t m k x (face-b f v))
+  unfolding imagesFrom imageFrom candidatesFrom placesFrom imagesOn
   carried-b f v =
       let normal = planeAt t m f .normal in
-      let images = map (imageOf normal) (candidatesOf t m k s n l (invertOf x) f v) in
-      subst (λ (is : List ClipVertex). Chosen is (map (carriedOf x) (pointsOf (arbitraryPerpOf normal) normal images)) (placesOf (arbitraryPerpOf normal) normal
-      images)) (map-twice (carriedOf x) (imageOf normal) (candidatesOf t m k s n l (invertOf x) f v))
-      (carried-chosen (carriedOf x) images _ _ (chosen (arbitraryPerpOf normal) normal images))
+      let candidates = candidatesOf t m k s n l (invertOf x) f v in
+      let carried = map (carriedOf x) (map (imageOf normal) candidates) in
+      subst (λ (images : List ClipVertex). Chosen images (pointsOf (picksOn normal candidates) carried) (placesOn normal candidates))
+      (map-twice (carriedOf x) (imageOf normal) candidates)
+      (chosen-on normal candidates carried (length-map (map (imageOf normal) candidates) (carriedOf x) ∙ length-map candidates (imageOf normal)))
 
-  own-a : (f v : ℕ) → let normal = planeAt s n f .normal in let candidates = candidatesOf s n l t m k x f v in
-      Chosen (imagesFrom s n l t m k x (face-a f v)) (pointsFrom normal candidates) (placesFrom s n l t m k x (face-a f v))
-  unfolding imagesFrom imageFrom candidatesFrom placesFrom placesOn pointsFrom
-  own-a f v = chosen (arbitraryPerpOf (planeAt s n f .normal)) (planeAt s n f .normal) _
-
-  abbrev Taken : Source → List ClipVertex → Type 0
+  abbrev Taken : Source → List Point → Type 0
   Taken source points = Chosen (imagesFrom s n l t m k x source) points (placesFrom s n l t m k x source)
 
   pub drawn : (source : Source) → Taken source (pointsTaken s n l t m k x source)
@@ -167,7 +158,7 @@ module _ (s : HullSize) (n : List Float) (l : List ℕ) (t : HullSize) (m : List
   unfolding contactOnB contactFrom pointsTaken normalFrom
   of-face-b f v = ap (contactOf (negOf (mulMvOf (matrixOf (x .q)) (planeAt t m f .normal)))) (carried-b f v .same)
 
-  of-edges : (normal : Vec3) (a b : ℕ) → contactOf normal (edgePoint (nearestOf s n l t m k x a b) normal a b ∷ []) ≡ From (edges normal a b)
+  of-edges : (normal : Vec3) (a b : ℕ) → contactOf normal (pointOf 0 (edgePoint (nearestOf s n l t m k x a b) normal a b) ∷ []) ≡ From (edges normal a b)
   unfolding contactFrom pointsTaken imagesFrom imageFrom candidatesFrom placesFrom normalFrom
   of-edges normal a b = refl
 

@@ -13,14 +13,15 @@ use Rattle.vector.specs.Arithmetic.{zeroVec, negOf}
 use Rattle.vector.specs.Awaited.{arbitraryPerpOf, isWithinSegmentsOf}
 use Rattle.rotation.specs.Rotation.{matrixOf, mulMvOf, invertOf}
 use Rattle.manifold.specs.declared.ClipVertex.{ClipVertex}
+use Rattle.manifold.specs.declared.Point.{Point}
 use Rattle.manifold.specs.declared.Contact.{Contact}
 use Rattle.manifold.specs.Records.{pastVertex}
 use Rattle.hull_links.specs.declared.HullSize.{HullSize}
 use Rattle.hull.specs.Numbers.{planeAt}
 use Rattle.clip.specs.Candidates.{candidatesOf}
 use Rattle.reduce_scores.specs.Images.{imageOf, leastSeparationOf, touchingOf}
-use Rattle.reduce_points.specs.Points.{contactOf}
-use Rattle.reduce.specs.Reduce.{placesOf}
+use Rattle.reduce_points.specs.Points.{pointOf, contactOf}
+use Rattle.reduce.specs.Reduce.{firstPicks, placesOf}
 use Rattle.contacts.specs.Faces.{carriedOf}
 use Rattle.contacts.specs.EdgePairs.{edgePoint, nearestOf}
 
@@ -46,7 +47,7 @@ pub record NoCandidates (source : Source) : Type 0 where
 
 -- the places of the candidates that become points: all of four or fewer, else the picks by the scores, made in the face's own frame
 unfoldable pub placesOn : Vec3 → List ClipVertex → List ℕ
-placesOn normal candidates = placesOf (arbitraryPerpOf normal) normal (map (imageOf normal) candidates)
+placesOn normal candidates = placesOf (firstPicks (arbitraryPerpOf normal) normal (map (imageOf normal) candidates)) (length candidates)
 
 -- "Fewer than 3 left, or least separation at or above speculative: not touching"
 abbrev touchOn : List ClipVertex → Bool
@@ -84,8 +85,9 @@ module _ (s : HullSize) (n : List Float) (l : List ℕ) (t : HullSize) (m : List
   placesFrom (edges normal a b) = 0 ∷ []
   placesFrom (none why) = []
 
-  unfoldable pub pointsTaken : Source → List ClipVertex
-  pointsTaken source = map (λ (j : ℕ). getD (imagesFrom source) j pastVertex) (placesFrom source)
+  -- "each point is the image of the candidate at its number" (document 02, d)
+  unfoldable pub pointsTaken : Source → List Point
+  pointsTaken source = map (λ (j : ℕ). pointOf j (getD (imagesFrom source) j pastVertex)) (placesFrom source)
 
   unfoldable pub normalFrom : Source → Vec3
   normalFrom (face-a f v) = planeAt s n f .normal

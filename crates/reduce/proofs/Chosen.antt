@@ -1,7 +1,7 @@
 -- The points are at most four, each is the candidate at its place, the places lie below the count and differ, and four or fewer are all kept. Assumes
 -- nothing.
 use Prim.Native.Nat.{ℕ, zero, suc, _-_, _≤_, _<_}
-use mathlib.Core.Path.{_≡_, refl, sym, ap, _∙_}
+use mathlib.Core.Path.{_≡_, refl, sym, ap, subst, _∙_}
 use mathlib.Core.Bool.{Bool, true, false, cond}
 use mathlib.Core.List.{List, [], _∷_, map}
 use native.Mathlib.Nat.{not-suc-le-zero}
@@ -13,8 +13,11 @@ use lib.Ieee.{lt}
 use borrow.Author.Tests.{eqb-true, eqb-false, leb-true, le-leb}
 use Rattle.vector.specs.declared.Vec3.{Vec3}
 use Rattle.manifold.specs.declared.ClipVertex.{ClipVertex}
-use Rattle.manifold.specs.Records.{pastVertex}
+use Rattle.manifold.specs.declared.Point.{Point}
+use Rattle.manifold.specs.Records.{pastVertex, pastPoint}
 use Rattle.reduce_scores.specs.Scores.{triangleOf}
+use Rattle.reduce_points.specs.Points.{pointOf, placed}
+use Rattle.reduce_points.proofs.Placed.{length-placed, at-placed, placed-map}
 use Rattle.reduce.specs.Chosen.{Chosen}
 use Rattle.reduce.specs.Reduce.{without, standing, taken, tolerance, firstBest, secondBest, thirdBest, fourthBest, fourthPicks, thirdPicks}
 use Rattle.reduce.specs.Reduce.{secondPicks, firstPicks, allOrPicked, pointsOf, numbered, placesOf}
@@ -84,7 +87,7 @@ module _ {A : Type 0} (d : A) where
 
 -- taking comes to the same before a map and after it
 module _ {A B : Type 0} (f : A → B) (a : A) (b : B) where
-  at-map : (l : List A) (i : ℕ) → i < length l → getD (map f l) i b ≡ f (getD l i a)
+  pub at-map : (l : List A) (i : ℕ) → i < length l → getD (map f l) i b ≡ f (getD l i a)
   at-map [] i h = absurd (not-suc-le-zero h)
   at-map (x ∷ xs) zero h = refl
   at-map (x ∷ xs) (suc i) h = at-map xs i (omega arith)
@@ -121,13 +124,16 @@ at-numbered (suc n) i h =
     cases (eqb i n) (λ t. rw (eqb-true i n t) (getD-at (numbered n) n [] 0 n m))
     (λ t. List·getD-append (numbered n) (n ∷ []) 0 i (omega (arith, m, eqb-false i n t)) ∙ at-numbered n i (omega (arith, eqb-false i n t)))
 
--- a list is its elements at 0, 1, ..
-all-places : {A : Type 0} (d : A) (l : List A) → l ≡ map (λ (j : ℕ). getD l j d) (numbered (length l))
-all-places {A} d l =
-    let f : ℕ → A = λ j. getD l j d in
+-- points with their places are the images at 0, 1, ..
+all-places : (l : List ClipVertex) → placed l ≡ map (λ (j : ℕ). pointOf j (getD l j pastVertex)) (numbered (length l))
+all-places l =
+    let f : ℕ → Point = λ j. pointOf j (getD l j pastVertex) in
     let m : length (numbered (length l)) ≡ length l = length-numbered (length l) in
-    ext-getD d l (map f (numbered (length l))) (sym (length-map (numbered (length l)) f ∙ m))
-    (λ i h. sym (at-map f 0 d (numbered (length l)) i (omega (arith, m)) ∙ ap f (at-numbered (length l) i h)))
+    let k : length (placed l) ≡ length l = length-placed 0 l in
+    ext-getD pastPoint (placed l) (map f (numbered (length l))) (k ∙ sym (length-map (numbered (length l)) f ∙ m))
+    (λ i h.
+    let low : i < length l = omega (arith, k) in
+    at-placed pastPoint l i low ∙ sym (at-map f 0 pastPoint (numbered (length l)) i (omega (arith, m, low)) ∙ ap f (at-numbered (length l) i low)))
 
 -- ---- what holds of each of a list of places, and what it is that none is there twice
 abbrev Every : (ℕ → Type 0) → List ℕ → Type 0
@@ -201,21 +207,33 @@ unfolding allOrPicked
 all-of-few js d l h = rw (le-leb (length l) 4 h)
 
 -- ---- the theorem
-pub chosen : (direction normal : Vec3) (l : List ClipVertex) → Chosen l (pointsOf direction normal l) (placesOf direction normal l)
+-- the picks are made by the scores of l, and take from images that are as many
+pub chosen : (direction normal : Vec3) (l images : List ClipVertex) → length images ≡ length l
+    → let picks = firstPicks direction normal l in Chosen images (pointsOf picks images) (placesOf picks (length images))
 unfolding pointsOf placesOf
-chosen direction normal l =
-    let n = length l in
+chosen direction normal l images as-many =
+    let n = length images in
     let js = firstPicks direction normal l in
-    let p = first-picked normal direction l in
-    let at : ℕ → ClipVertex = λ j. getD l j pastVertex in
+    let p : Picked 4 js n = subst (Picked 4 js) (sym as-many) (first-picked normal direction l) in
+    let at : ℕ → Point = λ j. pointOf j (getD images j pastVertex) in
     let m : length (numbered n) ≡ n = length-numbered n in
     let once : Once (numbered n) = λ a b h k e. sym (at-numbered n a (omega (arith, m))) ∙ (e ∙ at-numbered n b (omega (arith, m))) in
     let low : Every (λ (x : ℕ). x < n) (numbered n) = λ i h. rw (at-numbered n i (omega (arith, m))) (omega (arith, m)) in
     record {
-      few = few-kept js n p pastVertex l;
-      same = ap (allOrPicked pastVertex js) (all-places pastVertex l) ∙ map-kept js n p at 0 pastVertex (numbered n) m;
+      few = few-kept js n p pastPoint (placed images);
+      same = ap (allOrPicked pastPoint js) (all-places images) ∙ map-kept js n p at 0 pastPoint (numbered n) m;
       below = every-kept js n p (λ (x : ℕ). x < n) (numbered n) m low;
       apart = λ i j h k e. let q = once-kept js n p (numbered n) m once i j (omega arith) k e in omega arith;
-      all = λ h. sym (all-kept direction normal l h);
+      all = λ h. sym (all-kept js images h);
       order = λ h. all-of-few js 0 (numbered n) (omega (arith, m, h));
     }
+
+-- points that are carried are the points of the carried images
+pub points-map : (direction normal : Vec3) (l : List ClipVertex) (g : ClipVertex → ClipVertex) (h : Point → Point)
+    → ((j : ℕ) (v : ClipVertex) → h (pointOf j v) ≡ pointOf j (g v))
+    → let picks = firstPicks direction normal l in map h (pointsOf picks l) ≡ pointsOf picks (map g l)
+unfolding pointsOf
+points-map direction normal l g h e =
+    let js = firstPicks direction normal l in
+    sym (map-kept js (length l) (first-picked normal direction l) h pastPoint pastPoint (placed l) (length-placed 0 l))
+    ∙ ap (allOrPicked pastPoint js) (placed-map g h e 0 l)

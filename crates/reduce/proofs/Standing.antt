@@ -1,12 +1,16 @@
 -- Lists from which elements are taken one after another, each place filled by the last: what stands where. Assumes nothing.
 use Prim.Native.Nat.{ℕ, _-_, _≤_, _<_}
-use mathlib.Core.Path.{_≡_, refl, sym, _∙_}
+use mathlib.Core.Path.{_≡_, refl, sym, ap, _∙_}
 use mathlib.Core.List.{List, [], _∷_}
 use native.Mathlib.Omega.{arith}
 use lib.Dec.{eqb}
 use lib.ListN.{length, take, set, getD, length-set}
 use lib.Seq.{length-take-le, getD-take, getD-set-same, getD-set-other}
 use borrow.Author.Tests.{eqb-true, eqb-false}
+use Rattle.manifold.specs.declared.ClipVertex.{ClipVertex}
+use Rattle.manifold.specs.Records.{pastVertex, pastPoint}
+use Rattle.reduce_points.specs.Points.{pointOf, placed}
+use Rattle.reduce_points.proofs.Placed.{length-placed, at-placed}
 use Rattle.reduce.specs.Reduce.{without, standing}
 use Rattle.reduce.proofs.Cases.{cases}
 
@@ -79,6 +83,17 @@ module _ {A : Type 0} (d : A) (xs : List A) (n : ℕ) (long : n ≤ length xs) (
   read-left =
       let m : length (take n xs) ≡ n = length-take-le n xs long in
       sym (getD-take n xs place d place-low) ∙ rw e (sym (rw m at (at-left d (take n xs) js i (omega (arith, m)))))
+
+-- and what is left of their points says that very place
+pub point-left : (xs : List ClipVertex) (n : ℕ) (long : n ≤ length xs) (js : List ℕ) (i place : ℕ) → i < n - length js → place ≡ stands n js i
+    → pointOf place (getD xs place pastVertex) ≡ getD (left pastPoint (placed (take n xs)) js) i pastPoint
+point-left xs n long js i place h e =
+    let m : length (take n xs) ≡ n = length-take-le n xs long in
+    let k : length (placed (take n xs)) ≡ n = length-placed 0 (take n xs) ∙ m in
+    let low : place < n = place-low pastVertex xs n long js i place h e in
+    ap (pointOf place) (sym (getD-take n xs place pastVertex low))
+    ∙ (sym (at-placed pastPoint (take n xs) place (omega (arith, m, low)))
+    ∙ rw e (sym (rw k at (at-left pastPoint (placed (take n xs)) js i (omega (arith, k))))))
 
 pub length-left-of : {A : Type 0} (d : A) (xs : List A) (n : ℕ) (js : List ℕ) → n ≤ length xs → length (left d (take n xs) js) ≡ n - length js
 length-left-of d xs n js h = let m : length (take n xs) ≡ n = length-take-le n xs h in omega (arith, m, length-left d (take n xs) js)

@@ -1,5 +1,5 @@
--- "More than four candidates: up to four picks by the scores in `reduce_manifold_points`, each pick's place filled by the last candidate." The
--- points, and beside them which candidate each point is. Definitions only.
+-- "More than four candidates: up to four picks by the scores in `reduce_manifold_points`, each pick's place filled by the last candidate." Each point
+-- says which candidate it is, by "the place of its candidate in the list as it stood before any pick" (document 02, d). Definitions only.
 use Prim.Native.Nat.{ℕ, zero, suc, _-_}
 use mathlib.Core.Bool.{cond, false}
 use mathlib.Core.List.{List, [], _∷_, _++_, map}
@@ -13,14 +13,14 @@ use Rattle.vector.specs.Scalar.{absOf}
 use Rattle.vector.specs.Arithmetic.{zeroVec, subOf}
 use Rattle.manifold.specs.declared.ClipVertex.{ClipVertex}
 use Rattle.manifold.specs.declared.Point.{Point}
-use Rattle.manifold.specs.declared.Contact.{Contact}
-use Rattle.manifold.specs.Records.{zeroPoint, pastVertex}
+use Rattle.manifold.specs.Records.{pastVertex, pastPoint}
 use Rattle.manifold.specs.Limits.{speculative}
 use Rattle.manifold.specs.Polygons.{turns}
 use Rattle.reduce_scores.specs.declared.Best.{Best}
 use Rattle.reduce_scores.specs.declared.Triangle.{Triangle}
 use Rattle.reduce_scores.specs.Images.{largest}
 use Rattle.reduce_scores.specs.Scores.{betterPickOf, asGoodOf, firstTurn, spreadOf, signedAreaOf, outsideOf, triangleOf}
+use Rattle.reduce_points.specs.Points.{placed}
 
 -- ---- lists from which elements are taken; d is what the logic reads past their end
 -- without the element at j: its place is filled by the last
@@ -85,14 +85,15 @@ firstPicks direction normal l =
 unfoldable pub allOrPicked : {A : Type 0} → A → List ℕ → List A → List A
 allOrPicked d picks l = cond (leb (length l) 4) l (taken d picks l)
 
-unfoldable pub pointsOf : Vec3 → Vec3 → List ClipVertex → List ClipVertex
-pointsOf direction normal l = allOrPicked pastVertex (firstPicks direction normal l) l
+-- the points that these picks take of these images, each with its place in the list before any pick
+unfoldable pub pointsOf : List ℕ → List ClipVertex → List Point
+pointsOf picks images = allOrPicked pastPoint picks (placed images)
 
 -- 0, 1, .., n - 1
 unfoldable pub numbered : ℕ → List ℕ
 numbered zero = []
 numbered (suc n) = numbered n ++ (n ∷ [])
 
--- which candidate each point is, by its place in the list before any pick: the same picks, of the places themselves
-unfoldable pub placesOf : Vec3 → Vec3 → List ClipVertex → List ℕ
-placesOf direction normal l = allOrPicked 0 (firstPicks direction normal l) (numbered (length l))
+-- the places alone: the same picks, of the places of n images themselves
+unfoldable pub placesOf : List ℕ → ℕ → List ℕ
+placesOf picks n = allOrPicked 0 picks (numbered n)

@@ -1,13 +1,14 @@
-// The reduction to four points, from sat.rs. Nothing is moved while points are picked: where a pick's place is
-// filled by the last candidate, the later searches read the last candidate there. What each point is, and which candidate, is in specs/Reduce.antt.
+// The reduction to four points, from sat.rs. Nothing is moved while points are picked: where a pick's place is filled by the last candidate, the later
+// searches read the last candidate there. So a place that is read is the candidate's own, in the list as it stood before any pick, and the point says
+// it. What each point is, and which candidate, is in specs/Reduce.antt.
 pub mod places;
 
 ghost use mathlib.Core.List.{[], _∷_};
 ghost use mathlib.Core.Path.{_≡_};
 ghost use Prim.Native.Nat.{_≤_, _<_};
-ghost use Rattle.manifold.specs.Records.{pastVertex};
+ghost use Rattle.manifold.specs.Records.{pastPoint};
 ghost use Rattle.manifold.specs.Polygons.{cornersOf};
-ghost use Rattle.reduce_points.specs.Points.{contactOf};
+ghost use Rattle.reduce_points.specs.Points.{placed, contactOf};
 ghost use Rattle.reduce.specs.Reduce.{taken, firstPicks, pointsOf};
 use crate::places::first_turn;
 use crate::places::standing1;
@@ -19,6 +20,7 @@ use manifold::records::empty_contact;
 use reduce_points::all_points;
 use reduce_points::four_points;
 use reduce_points::one_point;
+use reduce_points::point_of;
 use reduce_points::three_points;
 use reduce_points::two_points;
 use reduce_scores::Best;
@@ -36,11 +38,11 @@ use vector::scalar::abs_float;
 const TOLERANCE: f32 = 0.02 * 0.02;
 
 // Up to four picks of more than four images: one function, so that the polygon is copied once.
-fn picked(points: Polygon, normal: Vec3, direction: Vec3) -> Contact
-    requires { ⌜ (points .count ≤ 64) × (4 < points .count) ⌝ }
-    ensures { λ r. ⌜ r ≡ contactOf normal (taken pastVertex (firstPicks direction normal (cornersOf points)) (cornersOf points)) ⌝ }
+fn picked(images: Polygon, normal: Vec3, direction: Vec3) -> Contact
+    requires { ⌜ (images .count ≤ 64) × (4 < images .count) ⌝ }
+    ensures { λ r. ⌜ r ≡ contactOf normal (taken pastPoint (firstPicks direction normal (cornersOf images)) (placed (cornersOf images))) ⌝ }
 {
-    let n = points.count;
+    let n = images.count;
     // The first: farthest along `direction`.
     let mut first = Best {
         found: false,
@@ -49,7 +51,7 @@ fn picked(points: Polygon, normal: Vec3, direction: Vec3) -> Contact
     };
     let mut i = 0;
     while i < n {
-        let v = points.vertices[i];
+        let v = images.vertices[i];
         first = first_turn(first, i, v, direction);
         i += 1;
     }
@@ -57,7 +59,8 @@ fn picked(points: Polygon, normal: Vec3, direction: Vec3) -> Contact
         return empty_contact();
     }
     let j1 = first.index;
-    let v1 = points.vertices[j1];
+    let v1 = images.vertices[j1];
+    let p1 = point_of(j1 as u8, v1);
     let a = v1.position;
     // The second: farthest from the first, across the normal, if that is far enough.
     let left2 = n - 1;
@@ -69,16 +72,17 @@ fn picked(points: Polygon, normal: Vec3, direction: Vec3) -> Contact
     let mut i2 = 0;
     while i2 < left2 {
         let place = standing1(n, j1, i2);
-        let v = points.vertices[place];
+        let v = images.vertices[place];
         second = better(second, i2, spread(v, a, normal));
         i2 += 1;
     }
     if second.score < TOLERANCE {
-        return one_point(v1, normal);
+        return one_point(p1, normal);
     }
     let j2 = second.index;
     let place2 = standing1(n, j1, j2);
-    let v2 = points.vertices[place2];
+    let v2 = images.vertices[place2];
+    let p2 = point_of(place2 as u8, v2);
     let b = v2.position;
     let ba = sub(b, a);
     // The third: makes the largest triangle with both, if that is large enough.
@@ -91,16 +95,17 @@ fn picked(points: Polygon, normal: Vec3, direction: Vec3) -> Contact
     let mut i3 = 0;
     while i3 < left3 {
         let place = standing2(n, j1, j2, i3);
-        let v = points.vertices[place];
+        let v = images.vertices[place];
         third = as_good(third, i3, abs_float(signed_area(v.position, a, ba, normal)));
         i3 += 1;
     }
     if !third.found {
-        return two_points(v1, v2, normal);
+        return two_points(p1, p2, normal);
     }
     let j3 = third.index;
     let place3 = standing2(n, j1, j2, j3);
-    let v3 = points.vertices[place3];
+    let v3 = images.vertices[place3];
+    let p3 = point_of(place3 as u8, v3);
     let t = first_three(a, b, v3.position, normal);
     // The fourth: adds the most area outside that triangle, if that is enough.
     let left4 = n - 3;
@@ -112,24 +117,26 @@ fn picked(points: Polygon, normal: Vec3, direction: Vec3) -> Contact
     let mut i4 = 0;
     while i4 < left4 {
         let place = standing3(n, j1, j2, j3, i4);
-        let v = points.vertices[place];
+        let v = images.vertices[place];
         fourth = better(fourth, i4, outside(v.position, t, normal));
         i4 += 1;
     }
     if !fourth.found {
-        return three_points(v1, v2, v3, normal);
+        return three_points(p1, p2, p3, normal);
     }
     let place4 = standing3(n, j1, j2, j3, fourth.index);
-    four_points(v1, v2, v3, points.vertices[place4], normal)
+    let p4 = point_of(place4 as u8, images.vertices[place4]);
+    four_points(p1, p2, p3, p4, normal)
 }
 
-// At most four points of these images: all of them, in order, where there are four or fewer. The first pick is the one farthest along `direction`.
-pub fn reduce_manifold_points(points: Polygon, normal: Vec3, direction: Vec3) -> Contact
-    requires { ⌜ points .count ≤ 64 ⌝ }
-    ensures { λ r. ⌜ r ≡ contactOf normal (pointsOf direction normal (cornersOf points)) ⌝ }
+// At most four points of these images, each with its place: all of them, in order, where there are four or fewer. The first pick is the one farthest
+// along `direction`.
+pub fn reduce_manifold_points(images: Polygon, normal: Vec3, direction: Vec3) -> Contact
+    requires { ⌜ images .count ≤ 64 ⌝ }
+    ensures { λ r. ⌜ r ≡ contactOf normal (pointsOf (firstPicks direction normal (cornersOf images)) (cornersOf images)) ⌝ }
 {
-    if points.count <= 4 {
-        return all_points(points, normal);
+    if images.count <= 4 {
+        return all_points(images, normal);
     }
-    picked(points, normal, direction)
+    picked(images, normal, direction)
 }

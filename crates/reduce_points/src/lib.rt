@@ -1,19 +1,20 @@
-// The contact of up to four points, zeros above their number. What it holds is in specs/Points.antt.
+// The contact of up to four points, unused ones above their number. What it holds is in specs/Points.antt.
 ghost use mathlib.Core.List.{[], _∷_};
 ghost use mathlib.Core.Path.{_≡_};
 ghost use Prim.Native.Nat.{_≤_};
 ghost use Rattle.manifold.specs.Polygons.{cornersOf};
-ghost use Rattle.reduce_points.specs.Points.{pointOf, contactOf};
+ghost use Rattle.reduce_points.specs.Points.{pointOf, placed, contactOf};
 use manifold::ClipVertex;
 use manifold::Contact;
 use manifold::Point;
 use manifold::Polygon;
 use manifold::records::empty_contact;
-use manifold::records::zero_point;
+use manifold::records::unused_point;
 use vector::Vec3;
 
-fn point_of(v: ClipVertex) -> Point
-    ensures { λ r. ⌜ r ≡ pointOf v ⌝ }
+// The point of the image whose candidate stands at this place.
+pub fn point_of(place: u8, v: ClipVertex) -> Point
+    ensures { λ r. ⌜ r ≡ pointOf place v ⌝ }
 {
     let position = v.position;
     let pair = v.pair;
@@ -21,62 +22,47 @@ fn point_of(v: ClipVertex) -> Point
         position,
         separation: v.separation,
         pair,
+        place,
     }
 }
 
 // The contact of one point.
-pub fn one_point(v1: ClipVertex, normal: Vec3) -> Contact
-    ensures { λ r. ⌜ r ≡ contactOf normal (v1 ∷ []) ⌝ }
+pub fn one_point(p1: Point, normal: Vec3) -> Contact
+    ensures { λ r. ⌜ r ≡ contactOf normal (p1 ∷ []) ⌝ }
 {
-    let zero = zero_point();
-    let p1 = point_of(v1);
+    let unused = unused_point();
     Contact {
-        points: [p1, zero, zero, zero],
+        points: [p1, unused, unused, unused],
         normal,
         count: 1,
     }
 }
 
-pub fn two_points(v1: ClipVertex, v2: ClipVertex, normal: Vec3) -> Contact
-    ensures { λ r. ⌜ r ≡ contactOf normal (v1 ∷ v2 ∷ []) ⌝ }
+pub fn two_points(p1: Point, p2: Point, normal: Vec3) -> Contact
+    ensures { λ r. ⌜ r ≡ contactOf normal (p1 ∷ p2 ∷ []) ⌝ }
 {
-    let zero = zero_point();
-    let p1 = point_of(v1);
-    let p2 = point_of(v2);
+    let unused = unused_point();
     Contact {
-        points: [p1, p2, zero, zero],
+        points: [p1, p2, unused, unused],
         normal,
         count: 2,
     }
 }
 
-pub fn three_points(v1: ClipVertex, v2: ClipVertex, v3: ClipVertex, normal: Vec3) -> Contact
-    ensures { λ r. ⌜ r ≡ contactOf normal (v1 ∷ v2 ∷ v3 ∷ []) ⌝ }
+pub fn three_points(p1: Point, p2: Point, p3: Point, normal: Vec3) -> Contact
+    ensures { λ r. ⌜ r ≡ contactOf normal (p1 ∷ p2 ∷ p3 ∷ []) ⌝ }
 {
-    let zero = zero_point();
-    let p1 = point_of(v1);
-    let p2 = point_of(v2);
-    let p3 = point_of(v3);
+    let unused = unused_point();
     Contact {
-        points: [p1, p2, p3, zero],
+        points: [p1, p2, p3, unused],
         normal,
         count: 3,
     }
 }
 
-pub fn four_points(
-    v1: ClipVertex,
-    v2: ClipVertex,
-    v3: ClipVertex,
-    v4: ClipVertex,
-    normal: Vec3,
-) -> Contact
-    ensures { λ r. ⌜ r ≡ contactOf normal (v1 ∷ v2 ∷ v3 ∷ v4 ∷ []) ⌝ }
+pub fn four_points(p1: Point, p2: Point, p3: Point, p4: Point, normal: Vec3) -> Contact
+    ensures { λ r. ⌜ r ≡ contactOf normal (p1 ∷ p2 ∷ p3 ∷ p4 ∷ []) ⌝ }
 {
-    let p1 = point_of(v1);
-    let p2 = point_of(v2);
-    let p3 = point_of(v3);
-    let p4 = point_of(v4);
     Contact {
         points: [p1, p2, p3, p4],
         normal,
@@ -85,25 +71,26 @@ pub fn four_points(
 }
 
 // All of four or fewer, in order.
-pub fn all_points(points: Polygon, normal: Vec3) -> Contact
-    requires { ⌜ points .count ≤ 4 ⌝ }
-    ensures { λ r. ⌜ r ≡ contactOf normal (cornersOf points) ⌝ }
+pub fn all_points(images: Polygon, normal: Vec3) -> Contact
+    requires { ⌜ images .count ≤ 4 ⌝ }
+    ensures { λ r. ⌜ r ≡ contactOf normal (placed (cornersOf images)) ⌝ }
 {
-    let n = points.count;
+    let n = images.count;
     if n == 0 {
         return empty_contact();
     }
-    let v1 = points.vertices[0];
+    let p1 = point_of(0, images.vertices[0]);
     if n == 1 {
-        return one_point(v1, normal);
+        return one_point(p1, normal);
     }
-    let v2 = points.vertices[1];
+    let p2 = point_of(1, images.vertices[1]);
     if n == 2 {
-        return two_points(v1, v2, normal);
+        return two_points(p1, p2, normal);
     }
-    let v3 = points.vertices[2];
+    let p3 = point_of(2, images.vertices[2]);
     if n == 3 {
-        return three_points(v1, v2, v3, normal);
+        return three_points(p1, p2, p3, normal);
     }
-    four_points(v1, v2, v3, points.vertices[3], normal)
+    let p4 = point_of(3, images.vertices[3]);
+    four_points(p1, p2, p3, p4, normal)
 }

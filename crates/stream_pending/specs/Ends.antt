@@ -15,4 +15,4 @@ toEnd (c ∷ cs) = cond (eqb c lineEnd) 0 (suc (toEnd cs))
 
 -- what is told of one line at the most: the longest answer in characters, and its line end
 abbrev pub longestTold : ℕ
-longestTold = 209
+longestTold = 217

@@ -50,18 +50,19 @@ LIES(contact_pair, owner1, 0, 1);
 LIES(contact_pair, index1, 1, 1);
 LIES(contact_pair, owner2, 2, 1);
 LIES(contact_pair, index2, 3, 1);
-HOLDS(sizeof(contact_point) == 20);
+HOLDS(sizeof(contact_point) == 24);
 LIES(contact_point, position, 0, 12);
 LIES(contact_point, separation, 12, 4);
 LIES(contact_point, pair, 16, 4);
-HOLDS(sizeof(contact_manifold) == 96);
-LIES(contact_manifold, points, 0, 80);
-LIES(contact_manifold, normal, 80, 12);
-LIES(contact_manifold, count, 92, 1);
-HOLDS(sizeof(contact_outcome) == 104);
+LIES(contact_point, place, 20, 1);
+HOLDS(sizeof(contact_manifold) == 112);
+LIES(contact_manifold, points, 0, 96);
+LIES(contact_manifold, normal, 96, 12);
+LIES(contact_manifold, count, 108, 1);
+HOLDS(sizeof(contact_outcome) == 120);
 LIES(contact_outcome, status, 0, 1);
-LIES(contact_outcome, contact, 4, 96);
-LIES(contact_outcome, retired, 100, 1);
+LIES(contact_outcome, contact, 4, 112);
+LIES(contact_outcome, retired, 116, 1);
 
 #ifdef __cplusplus
 extern "C" {
@@ -193,6 +194,7 @@ static void put_answer(const contact_outcome *outcome, contact_cache next) {
         put(point->pair.owner2, 1);
         put(point->pair.index2, 1);
     }
+    for (i = 0; i < CONTACT_MAX_POINTS; i++) put(outcome->contact.points[i].place, 1);
     put(outcome->retired, 1);
 }
 
@@ -256,6 +258,7 @@ static int all_are(const uint8_t *bytes, size_t count, uint8_t byte) {
 static struct {
     long calls, points[CONTACT_MAX_POINTS + 1], statuses[9], rules[9], others;
     long retired_marked, retired_refused, retired_small; /* by what came of a retired type; small: a capacity below 4 */
+    long edge_points, places_in_order, places_not_in_order; /* contacts by their places */
     size_t collide_stack, judge_stack, answer_stack;
 } met;
 static size_t thread_itself;
@@ -273,6 +276,25 @@ static void hold_mark(const contact_outcome *outcome, long line) {
     if (refused) met.retired_refused++;
     else if (small) met.retired_small++;
     else met.retired_marked++;
+}
+
+/* Places differ, those at and above the count are unused, and an edge point's is 0. */
+static void hold_places(const contact_manifold *contact, uint8_t next_kind, long line) {
+    int i, j, in_order = 1;
+    for (i = 0; i < CONTACT_MAX_POINTS; i++) {
+        const uint8_t place = contact->points[i].place;
+        if ((place == CONTACT_UNUSED_PLACE) != (i >= contact->count)) stop("a point without its place, or a place without its point", line);
+        if (i >= contact->count) break;
+        for (j = 0; j < i; j++) {
+            if (contact->points[j].place == place) stop("two points of one place", line);
+        }
+        in_order &= place == i;
+    }
+    if (contact->count == 0) return;
+    if (next_kind == CONTACT_EDGES && !in_order) stop("the place of an edge point", line);
+    if (next_kind == CONTACT_EDGES) met.edge_points++;
+    else if (in_order) met.places_in_order++;
+    else met.places_not_in_order++;
 }
 
 /* Both ways to answer the frame, held to its answer, with `untouched` in all that is not to be written. */
@@ -299,6 +321,7 @@ static void hold(const uint8_t *wanted, size_t wanted_len, uint8_t untouched, lo
     if (!all_are(came.outcome + sizeof outcome, WATCHED, untouched)) stop("a byte behind the outcome", line);
     if (!all_are(came.behind_cache, WATCHED, untouched)) stop("a byte behind the cache", line);
     hold_mark(&outcome, line);
+    hold_places(&outcome.contact, came.cache.kind, line);
     if (capacity >= CONTACT_MAX_POINTS) {
         if ((outcome.status == CONTACT_HULL_A) != (rule_a != 0)) stop("refusal 1 and the rule of A", line);
         if ((outcome.status == CONTACT_HULL_B) != (rule_a == 0 && rule_b != 0)) stop("refusal 2 and the rule of B", line);
@@ -369,8 +392,10 @@ int main(int count, char **words) {
     for (i = 0; i <= 6; i++) printf(" %ld", met.statuses[i] / 2);
     printf("; rules 0 to 8:");
     for (i = 0; i <= 8; i++) printf(" %ld", met.rules[i] / 2);
-    printf("; retired kinds marked %ld, refused %ld, with a capacity below 4 %ld\n", met.retired_marked / 2, met.retired_refused / 2,
+    printf("; retired kinds marked %ld, refused %ld, with a capacity below 4 %ld", met.retired_marked / 2, met.retired_refused / 2,
         met.retired_small / 2);
+    printf("; places in order %ld, not in order %ld, of edge points %ld\n", met.places_in_order / 2, met.places_not_in_order / 2,
+        met.edge_points / 2);
     most_stack("contact_collide", met.collide_stack, CONTACT_COLLIDE_STACK);
     most_stack("contact_first_broken_rule", met.judge_stack, CONTACT_COLLIDE_STACK);
     most_stack("contact_answer", met.answer_stack, CONTACT_ANSWER_STACK);
@@ -383,6 +408,7 @@ int main(int count, char **words) {
     for (i = 0; i <= 8; i++) {
         if (!met.rules[i]) stop("a rule was never met", number);
     }
+    if (!met.places_in_order || !met.places_not_in_order || !met.edge_points) stop("a way of the places was never met", number);
     if (!met.retired_marked || !met.retired_refused || !met.retired_small) stop("a way of a retired kind was never met", number);
     return 0;
 }

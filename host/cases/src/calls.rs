@@ -14,6 +14,8 @@ pub mod caches;
 #[cfg(rust_text)]
 pub mod more;
 #[cfg(rust_text)]
+pub mod placed;
+#[cfg(rust_text)]
 pub mod series;
 #[cfg(rust_text)]
 mod text;
@@ -122,7 +124,7 @@ fn in_range(a: HullSize, b: HullSize, cache: SatCache) -> bool {
     }
 }
 
-/// No contact, no mark, and the cache as it was.
+/// No contact, so that every place is unused; no mark; and the cache as it was.
 pub fn empty(status: u8, cache: SatCache) -> Answer {
     Answer {
         outcome: Outcome {
@@ -134,7 +136,7 @@ pub fn empty(status: u8, cache: SatCache) -> Answer {
     }
 }
 
-/// Equal in every place, any NaN of a point or a normal being equal to any other.
+/// Equal in every field, any NaN of a point or a normal being equal to any other.
 pub fn same_answers(a: &Answer, b: &Answer) -> bool {
     let Outcome {
         status,
@@ -149,8 +151,11 @@ pub fn same_answers(a: &Answer, b: &Answer) -> bool {
         && points.iter().zip(&others).all(|(p, q)| same_points(p, q))
 }
 
-fn same_points(a: &Point, b: &Point) -> bool {
-    same_vectors(a.position, b.position) && same(a.separation, b.separation) && a.pair == b.pair
+/// Equal in every field, any NaN being equal to any other.
+pub fn same_points(a: &Point, b: &Point) -> bool {
+    same_vectors(a.position, b.position)
+        && same(a.separation, b.separation)
+        && (a.pair, a.place) == (b.pair, b.place)
 }
 
 fn same_vectors(a: Vec3, b: Vec3) -> bool {

@@ -79,11 +79,13 @@ mod text {
         }
     }
 
+    /// A point of the copy of the text in which a candidate carries its place.
     pub fn our_contact_point(v: &open::LocalManifoldPoint) -> Point {
         Point {
             position: ours(v.point),
             separation: v.separation,
             pair: our_pair(v.pair),
+            place: v.triangle_index.try_into().expect("below 64"),
         }
     }
 

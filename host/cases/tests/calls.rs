@@ -117,3 +117,15 @@ fn the_mark_is_compared() {
     marked.outcome.retired = 1;
     assert!(!same_answers(&answer, &marked));
 }
+
+/// Two answers that differ in one place alone are not the same, whether it is used or not.
+#[test]
+fn places_are_compared() {
+    let answer = empty(0, SatCache::EMPTY);
+    for number in 0..answer.outcome.contact.points.len() {
+        let mut placed = answer;
+        let place = &mut placed.outcome.contact.points[number].place;
+        assert_eq!(std::mem::replace(place, 0), 255);
+        assert!(!same_answers(&answer, &placed), "point {number}");
+    }
+}

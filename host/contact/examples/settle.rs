@@ -90,11 +90,12 @@ fn settle() -> Result<String, Box<dyn Error>> {
                 let owner = |number: u8| if number == 0 { "A" } else { "B" };
                 writeln!(
                     story,
-                    "  point {i} at {position} m, {apart}: half-edge {} of {}, half-edge {} of {}",
+                    "  point {i} at {position} m, {apart}: half-edge {} of {}, half-edge {} of {}, candidate {}",
                     pair.index1,
                     owner(pair.owner1),
                     pair.index2,
                     owner(pair.owner2),
+                    point.place,
                 )?;
             }
             return Ok(story);

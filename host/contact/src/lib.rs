@@ -4,7 +4,9 @@
 //! A hull is lent, not copied, and judged by every call: one that breaks a rule is refused by its number, and so is a
 //! transform or a cache that does not fit. No input makes a call fault. A cache starts as [`SatCache::EMPTY`] and stays
 //! with its pair of hulls from step to step; of one that was saved with a retired type the outcome says so
-//! ([`Outcome::retired_type_read`]). [`HullBuilder`] makes a hull from its vertices and faces.
+//! ([`Outcome::retired_type_read`]). A point's tag is the same from step to step while the same features meet; where two
+//! candidates carry one tag, the point's [`place`](Point::place) tells which of them it was. [`HullBuilder`] makes a hull from
+//! its vertices and faces.
 //!
 //! # What a host must know
 //!
@@ -23,7 +25,9 @@
 //! # Example
 //!
 //! ```
-//! use contact::{collide, CacheKind, Hull, HullSize, Quat, Refusal, SatCache, Transform, Vec3};
+//! use contact::{
+//!     collide, CacheKind, Contact, Hull, HullSize, Quat, Refusal, SatCache, Transform, Vec3, UNUSED_PLACE,
+//! };
 //!
 //! // A corner of a cube: four vertices, twelve half-edges, four faces.
 //! let size = HullSize { vertices: 4, half_edges: 12, faces: 4 };
@@ -58,6 +62,11 @@
 //! // The next step begins with the axis that this one found.
 //! let outcome = collide(&hull, &hull, at(0.991), &mut cache);
 //! assert_eq!((outcome.points().len(), cache.hit), (4, 1));
+//!
+//! // Of each point which candidate it was: no two are the same.
+//! let places: Vec<u8> = outcome.points().iter().map(|point| point.place).collect();
+//! assert_eq!(places, [0, 1, 2, 3]);
+//! assert_eq!(Contact::EMPTY.points[0].place, UNUSED_PLACE);
 //!
 //! // What breaks a rule is refused, and the cache stays as it was.
 //! let outcome = collide(&hull, &hull, at(f32::NAN), &mut cache);
@@ -221,7 +230,7 @@ pub fn collide_with(
 }
 
 /// The most bytes of an answer to a frame.
-pub const LONGEST_ANSWER: usize = 104;
+pub const LONGEST_ANSWER: usize = 108;
 
 /// The bytes of an answer.
 #[derive(Debug, Clone, Copy)]

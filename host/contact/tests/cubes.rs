@@ -1,6 +1,8 @@
-//! Document 01's runs through the wrapper: two cubes of half-size 1, and what the wrapper says of refusals, retired types and
-//! lengths.
+//! Document 01's runs through the wrapper: two cubes of half-size 1, and what the wrapper says of refusals, retired types,
+//! places and lengths.
 
+use cases::shapes::solids::{frustum, OCTAGON};
+use cases::shapes::Shape;
 use contact::*;
 
 /// V 8, H 24, F 6.
@@ -105,6 +107,8 @@ fn touching() {
     assert!(outcome.points().iter().all(|point| point.separation == 0.0));
     assert_eq!(outcome.contact.normal.x, 1.0);
     assert_eq!((cache.kind, cache.separation), (3, 0));
+    // Four candidates, so all of them and in their order.
+    assert_eq!(outcome.contact.points.map(|p| p.place), [0, 1, 2, 3]);
 
     let before = cache;
     let outcome = collide_with(3, &cube.hull(), &cube.hull(), at(2.0), &mut cache);
@@ -134,6 +138,42 @@ fn refusals() {
         let outcome = collide(a, b, at(x), &mut next);
         assert_eq!(outcome.accepted(), Err(refusal));
         assert_eq!((outcome.contact, next), (Contact::EMPTY, cache));
+    }
+}
+
+/// Document 02's example of two octagon prisms, one on top of the other: eight candidates, of which four are picked, and not
+/// in their order. A point that is not used has no place.
+#[test]
+fn places() {
+    let prism = Shape::new(&frustum(&OCTAGON, 1.0, 1.0));
+    let hull = Hull::from(prism.lent());
+    let above = Transform {
+        p: Vec3 {
+            z: 1.0,
+            ..Vec3::ZERO
+        },
+        q: Quat::IDENTITY,
+    };
+    let mut cache = SatCache::EMPTY;
+    let outcome = collide(&hull, &hull, above, &mut cache);
+    assert_eq!(outcome.contact.points.map(|p| p.place), [0, 4, 2, 6]);
+
+    let cube = Cube::new();
+    let apart = collide(
+        &cube.hull(),
+        &cube.hull(),
+        at(3.0),
+        &mut SatCache::default(),
+    );
+    let refused = collide(
+        &cube.hull(),
+        &cube.hull(),
+        at(f32::NAN),
+        &mut SatCache::default(),
+    );
+    for outcome in [apart, refused] {
+        let places = outcome.contact.points.map(|p| p.place);
+        assert_eq!(places, [UNUSED_PLACE; MAX_MANIFOLD_POINTS]);
     }
 }
 
@@ -196,9 +236,9 @@ fn frames() {
     assert_eq!(*answer(&[0x11, 2, 3, 1, 9]), [0xff, 0x08]);
     assert_eq!(*answer(&[0x10, 0x40]), [0xff, 0x23]);
     assert_eq!(*answer(&[]), [0xff, 0x22]);
-    let mut small = [7; 103]; // one place too few
+    let mut small = [7; 107]; // one byte too few
     assert_eq!(answer_into(&[0x10, 0x40, 0x80, 0, 0], &mut small), 0);
-    assert_eq!(small, [7; 103]);
+    assert_eq!(small, [7; 107]);
     let mut fitting = [7; LONGEST_ANSWER];
     assert_eq!(answer_into(&[0x10, 0x40, 0x80, 0, 0], &mut fitting), 5);
     assert_eq!(fitting[..6], [0x90, 0x40, 0, 0, 0, 7]);

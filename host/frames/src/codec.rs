@@ -2,7 +2,10 @@
 
 use cases::calls::{Answer, Call, Given};
 use cases::shapes::Shape;
-use records::{FeaturePair, HullLists, HullSize, Point, Quat, SatCache, Transform, Vec3};
+use records::{
+    Contact, FeaturePair, HullLists, HullSize, Outcome, Point, Quat, SatCache, Transform, Vec3,
+    MAX_MANIFOLD_POINTS,
+};
 
 /// The kinds of frames; an answer's is 80 higher.
 pub const ROOT: u8 = 0x10;
@@ -15,17 +18,18 @@ pub const CACHE: usize = 5;
 pub const TRANSFORM: usize = 13;
 pub const HULL_A: usize = 41;
 
-/// Where a call's answer has its status, its cache, how many points there are, its normal, its first point, and the mark
-/// that a retired type was read; and how many bytes a point and the whole have. Document 01's answer ends before the mark,
-/// "a last byte in frame 92" (document 02, j).
+/// Where a call's answer has its status, its cache, how many points there are, its normal, its first point, the places of the
+/// points' candidates, and the mark that a retired type was read; and how many bytes a point and the whole have. Document 01's
+/// answer ends before the places, "four bytes at its end" (document 02, d); the mark is "a last byte in frame 92" (j).
 pub const STATUS: usize = 1;
 pub const NEXT_CACHE: usize = 2;
 pub const COUNT: usize = 10;
 pub const NORMAL: usize = 11;
 pub const POINTS: usize = 23;
 pub const A_POINT: usize = 20;
-pub const RETIRED: usize = 103;
-pub const LONGEST_ANSWER: usize = 104;
+pub const PLACES: usize = 103;
+pub const RETIRED: usize = 107;
+pub const LONGEST_ANSWER: usize = 108;
 
 /// Where a cache has its type and its hit.
 pub const TYPE: usize = 4;
@@ -241,26 +245,53 @@ pub fn flip_answer(pair: FeaturePair) -> Vec<u8> {
     answer
 }
 
-/// "92, status (a byte: 0 or the refusal), cache, count (a byte), normal, four points of position, separation, pair"; and
-/// the mark of document 02's request j, "a last byte in frame 92".
+/// "92, status (a byte: 0 or the refusal), cache, count (a byte), normal, four points of position, separation, pair"; then the
+/// four places of document 02's request d, and last the mark of its request j.
 pub fn call_answer(answer: &Answer) -> Vec<u8> {
     let contact = answer.outcome.contact;
     let mut bytes = vec![CALL + 0x80, answer.outcome.status];
     put_cache(&mut bytes, answer.cache);
     bytes.push(contact.count);
     put_worked_out(&mut bytes, contact.normal);
-    for Point {
-        position,
-        separation,
-        pair,
-    } in contact.points
-    {
-        put_worked_out(&mut bytes, position);
-        bytes.extend(worked_out(separation));
-        put_pair(&mut bytes, pair);
+    for point in &contact.points {
+        put_worked_out(&mut bytes, point.position);
+        bytes.extend(worked_out(point.separation));
+        put_pair(&mut bytes, point.pair);
     }
+    bytes.extend(contact.points.map(|point| point.place));
     bytes.push(answer.outcome.retired);
     bytes
+}
+
+/// What a call's answer says; none where it is no such answer.
+pub fn read_answer(answer: &[u8]) -> Option<Answer> {
+    let mut bytes = Bytes(answer.strip_prefix(&[CALL + 0x80])?);
+    let [status] = bytes.array()?;
+    let cache = bytes.cache()?;
+    let [count] = bytes.array()?;
+    let normal = bytes.vector()?;
+    let mut points = [Point::UNUSED; MAX_MANIFOLD_POINTS];
+    for point in &mut points {
+        point.position = bytes.vector()?;
+        point.separation = bytes.float()?;
+        point.pair = bytes.pair()?;
+    }
+    let places: [u8; MAX_MANIFOLD_POINTS] = bytes.array()?;
+    for (point, place) in points.iter_mut().zip(places) {
+        point.place = place;
+    }
+    let [retired] = bytes.array()?;
+    let contact = Contact {
+        points,
+        normal,
+        count,
+    };
+    let outcome = Outcome {
+        status,
+        contact,
+        retired,
+    };
+    bytes.0.is_empty().then_some(Answer { outcome, cache })
 }
 
 fn put_worked_out(to: &mut Vec<u8>, v: Vec3) {

@@ -2,10 +2,11 @@
 //! it is seen to tell each.
 
 use crate::codec::{
-    self, Asked, Fault, A_POINT, CACHE, CALL, CAPACITY, COUNT, HIT, NEXT_CACHE, NORMAL, POINTS,
-    RETIRED, ROOT, STATUS, TRANSFORM, TYPE,
+    self, Asked, Fault, A_POINT, CACHE, CALL, CAPACITY, COUNT, HIT, NEXT_CACHE, NORMAL, PLACES,
+    POINTS, RETIRED, ROOT, STATUS, TRANSFORM, TYPE,
 };
 use crate::{hex, wanted, LONGEST_LINE};
+use cases::calls::Given;
 use records::SatCache;
 
 /// What is answered to a line with its end, where it has one; none where nothing is printed.
@@ -14,6 +15,11 @@ type Answers = fn(&[u8]) -> Option<Vec<u8>>;
 /// The right answer.
 pub fn right(line: &[u8]) -> Option<Vec<u8>> {
     wanted::to_line(without_end(line))
+}
+
+/// The right answer with the work of a call done once, as the plain program is timed.
+pub fn right_once(line: &[u8]) -> Option<Vec<u8>> {
+    wanted::to_line_once(without_end(line))
 }
 
 fn without_end(line: &[u8]) -> &[u8] {
@@ -29,14 +35,30 @@ fn of_call(line: &[u8], change: impl FnOnce(&mut [u8])) -> Option<Vec<u8>> {
     Some(answer)
 }
 
-/// The right answer to a call that was accepted and did some work, changed by the type that it was given.
-fn of_work(line: &[u8], change: impl FnOnce(&mut [u8], u8)) -> Option<Vec<u8>> {
+/// The right answer to a call that was accepted and did some work, changed by what it was given.
+fn of_given(line: &[u8], change: impl FnOnce(&mut [u8], &Given)) -> Option<Vec<u8>> {
     let asked = hex::read(without_end(line)).map(|frame| codec::decode(&frame));
     of_call(line, |answer| match asked {
         Some(Ok(Asked::Call(given))) if answer[STATUS] == 0 && given.capacity >= 4 => {
-            change(answer, given.cache.kind)
+            change(answer, &given)
         }
         _ => {}
+    })
+}
+
+/// The same, changed by the type that it was given.
+fn of_work(line: &[u8], change: impl FnOnce(&mut [u8], u8)) -> Option<Vec<u8>> {
+    of_given(line, |answer, given| change(answer, given.cache.kind))
+}
+
+/// The right answer to a call whose contact has points, its four places changed by how many there are and by the type of the
+/// next cache.
+fn of_places(line: &[u8], change: impl FnOnce(&mut [u8], usize, u8)) -> Option<Vec<u8>> {
+    of_call(line, |answer| {
+        let (count, next_type) = (answer[COUNT].into(), answer[NEXT_CACHE + TYPE]);
+        if count > 0 {
+            change(&mut answer[PLACES..RETIRED], count, next_type);
+        }
     })
 }
 
@@ -70,7 +92,7 @@ fn point(number: usize) -> std::ops::Range<usize> {
     from..from + A_POINT
 }
 
-pub const FAULTS: [(&str, Answers); 35] = [
+pub const FAULTS: [(&str, Answers); 42] = [
     ("low byte first in a root", |line| {
         let mut answer = right(line)?;
         if answer[0] == ROOT + 0x80 {
@@ -130,7 +152,7 @@ pub const FAULTS: [(&str, Answers); 35] = [
             }
         })
     }),
-    ("a place above the count not cleared", |line| {
+    ("a point above the count not cleared", |line| {
         of_call(line, |answer| {
             if answer[COUNT] < 4 {
                 answer[point(3).end - 1] = 1;
@@ -194,6 +216,57 @@ pub const FAULTS: [(&str, Answers); 35] = [
         of_work(line, |answer, kind| {
             if answer[RETIRED] == 1 {
                 answer[NEXT_CACHE + TYPE] = kind;
+            }
+        })
+    }),
+    (
+        "the second place as the list stands after the first pick",
+        |line| {
+            of_given(line, |answer, given| {
+                // The first pick's place is taken by the last candidate.
+                if answer[COUNT] > 1 {
+                    let count = wanted::candidates(given, answer);
+                    if count > 4 && usize::from(answer[PLACES + 1]) == count - 1 {
+                        answer[PLACES + 1] = answer[PLACES];
+                    }
+                }
+            })
+        },
+    ),
+    ("places always 0, 1, 2, ..", |line| {
+        of_places(line, |places, count, _| {
+            for (to, place) in places[..count].iter_mut().zip(0..) {
+                *to = place;
+            }
+        })
+    }),
+    ("places of a face of B not carried", |line| {
+        of_places(line, |places, count, next_type| {
+            if next_type == 3 {
+                places[..count].fill(0);
+            }
+        })
+    }),
+    ("an edge point at place 1", |line| {
+        of_places(line, |places, _, next_type| {
+            if next_type == 4 {
+                places[0] = 1;
+            }
+        })
+    }),
+    ("an unused place 0", |line| {
+        of_call(line, |answer| {
+            let unused = PLACES + usize::from(answer[COUNT]);
+            answer[unused..RETIRED].fill(0);
+        })
+    }),
+    ("the places behind the mark", |line| {
+        of_call(line, |answer| answer[PLACES..].rotate_right(1))
+    }),
+    ("a place doubled", |line| {
+        of_places(line, |places, count, _| {
+            if count > 1 {
+                places[1] = places[0];
             }
         })
     }),

@@ -1,10 +1,12 @@
-//! How often each sort, fault, refusal, rule, cache type and mark was met, and whether all that must be were.
+//! How often each sort, fault, refusal, rule, cache type, place and mark was met, and whether all that must be were.
 
 use crate::codec::{
     self, Asked, Fault, CALL, COUNT, FLIP, HIT, NEXT_CACHE, RETIRED, ROOT, STATUS, TYPE,
 };
 use crate::sorts::Frames;
 use crate::Frame;
+#[cfg(rust_text)]
+use cases::calls::placed::Placed;
 use cases::met;
 use records::SatCache;
 
@@ -31,6 +33,8 @@ pub struct Mix {
     next_types: [u64; TYPES],
     points: [u64; 5],
     retired: Retired,
+    #[cfg(rust_text)]
+    placed: Placed,
 }
 
 /// Calls with a cache of a retired type, by the type.
@@ -44,13 +48,13 @@ struct Retired {
 }
 
 impl Retired {
-    fn add(&mut self, place: usize, answer: &[u8]) {
+    fn add(&mut self, which: usize, answer: &[u8]) {
         let status = usize::from(answer[STATUS]);
         match (answer[RETIRED], status) {
-            (1, _) => self.marked[place] += 1,
-            (_, 0) => self.without_work[place] += 1,
+            (1, _) => self.marked[which] += 1,
+            (_, 0) => self.without_work[which] += 1,
             _ => {
-                self.refused[place] += 1;
+                self.refused[which] += 1;
                 self.statuses[status] += 1;
             }
         }
@@ -101,8 +105,8 @@ impl Mix {
             (FLIP, _) => self.pairs += 1,
             (CALL, Some(bytes)) => self.add_call(bytes, answer),
             _ => {
-                let place = Fault::ALL.iter().position(|&f| f as u8 == answer[1]);
-                self.faults[place.expect("a fault")] += 1;
+                let which = Fault::ALL.iter().position(|&f| f as u8 == answer[1]);
+                self.faults[which.expect("a fault")] += 1;
             }
         }
     }
@@ -114,8 +118,8 @@ impl Mix {
         let status = answer[STATUS];
         self.statuses[usize::from(status)] += 1;
         let is_given = |&kind: &u8| kind == given.cache.kind;
-        if let Some(place) = SatCache::RETIRED_TYPES.iter().position(is_given) {
-            self.retired.add(place, answer);
+        if let Some(which) = SatCache::RETIRED_TYPES.iter().position(is_given) {
+            self.retired.add(which, answer);
         }
         match status {
             1 => self.rules[usize::from(given.a.broken_rule())] += 1,
@@ -128,6 +132,11 @@ impl Mix {
                 self.hits[asked] += u64::from(answer[NEXT_CACHE + HIT] == 1);
                 self.next_types[kind(answer[NEXT_CACHE + TYPE])] += 1;
                 self.points[usize::from(answer[COUNT])] += 1;
+                #[cfg(rust_text)]
+                {
+                    let wanted = codec::read_answer(answer).expect("the answer to a call");
+                    self.placed.add(&given.call(), &wanted);
+                }
             }
             _ => {}
         }
@@ -190,6 +199,10 @@ impl Mix {
         println!("caches that come out");
         good &= types(&self.next_types, [1, 0, 1, 1, 1, 0, 0, 0, 0, 0]);
         good &= self.retired.report(text);
+        #[cfg(rust_text)]
+        {
+            good &= self.placed.report(1);
+        }
         println!("points");
         good & met(&[
             ("none", none, text),

@@ -4,26 +4,32 @@
 use crate::codec::call_frame;
 use crate::sorts::marked::frame;
 use cases::calls::Call;
-use cases::shapes::solids::{block, polygon, pyramid, Solid};
+use cases::shapes::solids::{bands, block, frustum, polygon, pyramid, tipped, Solid, OCTAGON};
 use cases::shapes::{Link, Shape};
-use records::{Quat, SatCache, Transform, Vec3};
+use records::{Quat, SatCache, Transform, Vec3, UNUSED_PLACE};
 use std::f64::consts::TAU;
 
 pub struct Example {
     pub words: &'static str,
     pub frame: Vec<u8>,
-    /// The answer's status, next cache, count of points and mark.
+    /// The answer's status, next cache, count of points, places and mark.
     pub status: u8,
     pub cache: SatCache,
     pub count: u8,
+    pub places: [u8; 4],
     pub retired: u8,
 }
 
+/// The places of no point, and of four points of four candidates, which come all and in their order.
+const NONE: [u8; 4] = [UNUSED_PLACE; 4];
+const IN_ORDER: [u8; 4] = [0, 1, 2, 3];
+
 /// By the letter of the request, in the order in which they landed.
-pub fn by_request() -> [(char, Vec<Example>); 2] {
+pub fn by_request() -> [(char, Vec<Example>); 3] {
     [
         ('k', finite_separations().into()),
         ('j', retired_types().into()),
+        ('d', places().into()),
     ]
 }
 
@@ -87,6 +93,7 @@ fn finite_separations() -> [Example; 5] {
             status: 0,
             cache: axis(2, 0x3f80_0000),
             count: 0,
+            places: NONE,
             retired: 0,
         },
         Example {
@@ -95,6 +102,7 @@ fn finite_separations() -> [Example; 5] {
             status: 0,
             cache: axis(3, 0),
             count: 4,
+            places: IN_ORDER,
             retired: 0,
         },
         Example {
@@ -103,6 +111,7 @@ fn finite_separations() -> [Example; 5] {
             status: 0,
             cache: axis(3, 0xc5ff_f800),
             count: 4,
+            places: IN_ORDER,
             retired: 0,
         },
         Example {
@@ -111,6 +120,7 @@ fn finite_separations() -> [Example; 5] {
             status: 0,
             cache: SatCache::EMPTY,
             count: 0,
+            places: NONE,
             retired: 0,
         },
         Example {
@@ -119,17 +129,20 @@ fn finite_separations() -> [Example; 5] {
             status: 0,
             cache: SatCache::EMPTY,
             count: 0,
+            places: NONE,
             retired: 1,
         },
     ]
 }
 
+/// Two cubes of half-size 1, B at this x.
+fn cubes(capacity: i32, x: f32, cache: SatCache) -> Vec<u8> {
+    let cube = cube(1.0, 1.0);
+    frame(capacity, &cube, &cube, [x, 0.0, 0.0], cache)
+}
+
 /// Request j: types 6, 7 and 8 act as type 0, and an accepted call with a capacity of 4 or more is marked.
 fn retired_types() -> [Example; 7] {
-    let cubes = |capacity, x, cache| {
-        let cube = cube(1.0, 1.0);
-        frame(capacity, &cube, &cube, [x, 0.0, 0.0], cache)
-    };
     // Every field filled, to see that a call which does not read the cache keeps it.
     let filled = |kind| SatCache {
         separation: 0x3f00_0000,
@@ -145,6 +158,7 @@ fn retired_types() -> [Example; 7] {
             status: 0,
             cache: axis(3, 0),
             count: 4,
+            places: IN_ORDER,
             retired: 0,
         },
         Example {
@@ -163,6 +177,7 @@ fn retired_types() -> [Example; 7] {
             status: 0,
             cache: axis(3, 0),
             count: 4,
+            places: IN_ORDER,
             retired: 1,
         },
         Example {
@@ -171,6 +186,7 @@ fn retired_types() -> [Example; 7] {
             status: 0,
             cache: axis(2, 0x3f80_0000),
             count: 0,
+            places: NONE,
             retired: 1,
         },
         Example {
@@ -179,6 +195,7 @@ fn retired_types() -> [Example; 7] {
             status: 0,
             cache: filled(7),
             count: 0,
+            places: NONE,
             retired: 0,
         },
         Example {
@@ -187,6 +204,7 @@ fn retired_types() -> [Example; 7] {
             status: 3,
             cache: filled(6),
             count: 0,
+            places: NONE,
             retired: 0,
         },
         Example {
@@ -195,6 +213,7 @@ fn retired_types() -> [Example; 7] {
             status: 6,
             cache: filled(6),
             count: 0,
+            places: NONE,
             retired: 0,
         },
         Example {
@@ -211,9 +230,119 @@ fn retired_types() -> [Example; 7] {
             status: 0,
             cache: axis(3, 0),
             count: 4,
+            places: IN_ORDER,
             retired: 0,
         },
     ]
+}
+
+/// Request d: each point says which candidate it was.
+fn places() -> [Example; 6] {
+    let prism = hull(&frustum(&OCTAGON, 1.0, 1.0));
+    let banded = planed(&tipped(&bands(-1.0, &WAYS), 0.7));
+    let block = hull(&block([1.0, 1.0, 0.5]));
+    let top_of_block = SatCache {
+        kind: 2,
+        index_a: 5,
+        ..SatCache::EMPTY
+    };
+    [
+        Example {
+            words: "d 1: cubes, x = 2: four candidates, so places 0 to 3",
+            frame: cubes(4, 2.0, SatCache::EMPTY),
+            status: 0,
+            cache: axis(3, 0),
+            count: 4,
+            places: IN_ORDER,
+            retired: 0,
+        },
+        Example {
+            words: "d 2: cubes, x = 3: apart, no point",
+            frame: cubes(4, 3.0, SatCache::EMPTY),
+            status: 0,
+            cache: axis(2, 0x3f80_0000),
+            count: 0,
+            places: NONE,
+            retired: 0,
+        },
+        Example {
+            words: "d 3: two wedges edge on edge: one edge point",
+            frame: wedges(),
+            status: 0,
+            cache: SatCache {
+                kind: 4,
+                index_a: 12,
+                index_b: 12,
+                ..SatCache::EMPTY
+            },
+            count: 1,
+            places: [0, 255, 255, 255],
+            retired: 0,
+        },
+        Example {
+            words: "d 4: two octagon prisms, one on top of the other: eight candidates, four of them picked, not in their order",
+            frame: frame(4, &prism, &prism, [0.0, 0.0, 1.0], SatCache::EMPTY),
+            status: 0,
+            cache: SatCache {
+                kind: 3,
+                index_a: 8,
+                ..SatCache::EMPTY
+            },
+            count: 4,
+            places: [0, 4, 2, 6],
+            retired: 0,
+        },
+        Example {
+            words: "d 5: two bands round a corner of A's top, cached face: two candidates carry one tag, the place tells which it is",
+            frame: frame(4, &block, &banded, [0.0, 0.0, 0.5], top_of_block),
+            status: 0,
+            cache: SatCache {
+                hit: 1,
+                ..top_of_block
+            },
+            count: 4,
+            places: [1, 10, 9, 11],
+            retired: 0,
+        },
+        Example {
+            words: "d 6: cubes, x NaN: refused, so every place is unused",
+            frame: cubes(4, f32::NAN, SatCache::EMPTY),
+            status: 3,
+            cache: SatCache::EMPTY,
+            count: 0,
+            places: NONE,
+            retired: 0,
+        },
+    ]
+}
+
+/// Two bands round the corner of A's top at (1, 1): each way round is cut off by the same two edges.
+const WAYS: [[f64; 3]; 4] = [
+    [0.1, 1.9, 1.9],
+    [0.2, 1.8, 1.8],
+    [0.4, 1.5, 1.6],
+    [0.5, 1.4, 1.5],
+];
+
+/// A's ridge goes along x and looks up, B's along y and looks down; both lie at z = 0.
+fn wedges() -> Vec<u8> {
+    let faces = [
+        vec![0, 1, 2],
+        vec![5, 4, 3],
+        vec![1, 0, 3, 4],
+        vec![2, 1, 4, 5],
+        vec![0, 2, 5, 3],
+    ];
+    let wedge = |corner: fn(f64, f64, f64) -> [f64; 3]| {
+        let profile =
+            |along| [(0.0, 0.0), (1.0, 1.0), (-1.0, 1.0)].map(|(y, z)| corner(along, y, z));
+        planed(&Solid {
+            corners: [profile(-2.0), profile(2.0)].concat(),
+            faces: faces.to_vec(),
+        })
+    };
+    let (a, b) = (wedge(|x, y, z| [x, y, -z]), wedge(|y, x, z| [x, y, z]));
+    frame(4, &a, &b, [0.0; 3], SatCache::EMPTY)
 }
 
 /// A cone of 64 sides on a block's top face, whose edge lies at x = 2 m, B at x = 1.001 m. The cone's corners lie half a step
@@ -225,11 +354,7 @@ fn corner_lost(cache: SatCache) -> Vec<u8> {
     for (corner, [x, y]) in solid.corners.iter_mut().zip(half_steps) {
         *corner = [x, y, 0.0];
     }
-    let (block, mut cone) = (hull(&block([2.0, 2.0, 1.0])), hull(&solid));
-    for face in 0..cone.size.faces {
-        let plane = cone.plane(face);
-        cone.numbers[plane..plane + 3].copy_from_slice(&normal(&solid, face));
-    }
+    let (block, cone) = (hull(&block([2.0, 2.0, 1.0])), planed(&solid));
     let half_turn = TAU / 256.0;
     call_frame(&Call {
         capacity: 4,
@@ -254,18 +379,31 @@ fn corner_lost(cache: SatCache) -> Vec<u8> {
     })
 }
 
-/// By Newell's sum over the corners as they are before they are rounded.
-fn normal(solid: &Solid, face: usize) -> [f32; 3] {
+/// The solid's hull, its planes worked out from the corners as they are before they are rounded.
+fn planed(solid: &Solid) -> Shape {
+    let mut hull = hull(solid);
+    for face in 0..hull.size.faces {
+        let from = hull.plane(face);
+        hull.numbers[from..from + 4].copy_from_slice(&plane(solid, face));
+    }
+    hull
+}
+
+/// The normal by Newell's sum, the offset from the first corner.
+fn plane(solid: &Solid, face: usize) -> [f32; 4] {
     let corners = solid.faces[face]
         .iter()
         .map(|&corner| solid.corners[corner]);
     let mut sum = [0.0; 3];
-    for (from, to) in corners.clone().zip(corners.cycle().skip(1)) {
+    for (from, to) in corners.clone().zip(corners.clone().cycle().skip(1)) {
         for (x, part) in sum.iter_mut().enumerate() {
             let (y, z) = ((x + 1) % 3, (x + 2) % 3);
             *part += (from[y] - to[y]) * (from[z] + to[z]);
         }
     }
     let length = sum.iter().map(|part| part * part).sum::<f64>().sqrt();
-    sum.map(|part| (part / length) as f32)
+    let normal = sum.map(|part| part / length);
+    let first = corners.clone().next().expect("a face has corners");
+    let offset = (normal.iter().zip(first)).fold(0.0, |sum, (n, x)| sum + n * x);
+    [normal[0], normal[1], normal[2], offset].map(|x| x as f32)
 }

@@ -80,6 +80,8 @@ pub struct Place {
 pub struct Frames {
     seed: u64,
     sorts: Vec<Sort>,
+    /// How many of the sorts are the first ones: those that came later leave their frames as they were.
+    first: usize,
 }
 
 impl Frames {
@@ -104,7 +106,10 @@ impl Frames {
             sorts.extend(CARRIED.map(named));
             sorts.extend(cases::calls::more::MORE.map(of_pairs));
         }
-        Frames { seed, sorts }
+        let first = sorts.len();
+        #[cfg(rust_text)]
+        sorts.extend([cases::calls::more::BANDS].map(of_pairs));
+        Frames { seed, sorts, first }
     }
 
     pub fn seed(&self) -> u64 {
@@ -129,12 +134,22 @@ impl Frames {
         unit % self.sorts.len()
     }
 
+    /// Where a unit's numbers begin. The units of the first sorts are counted from below as if there were no others, those
+    /// of each later sort on their own from above.
+    fn beginning(&self, round: usize, sort: usize) -> u64 {
+        match sort.checked_sub(self.first) {
+            None => (round * self.first + sort) as u64,
+            Some(later) => u64::MAX - ((later as u64) << 32 | round as u64),
+        }
+    }
+
     /// The frames of a unit, one or more.
     pub fn unit(&self, unit: usize) -> Vec<Frame> {
         let base = Numbers::new(self.seed).word();
-        let mut numbers = Numbers::new(base.wrapping_add(unit as u64));
-        let (round, n) = (unit / self.sorts.len(), &mut numbers);
-        match self.sorts[self.sort_of(unit)].make {
+        let (round, sort) = (unit / self.sorts.len(), self.sort_of(unit));
+        let mut numbers = Numbers::new(base.wrapping_add(self.beginning(round, sort)));
+        let n = &mut numbers;
+        match self.sorts[sort].make {
             Make::Frames(make) => {
                 let turns = TURNS * round..TURNS * (round + 1);
                 turns.flat_map(|turn| make(turn, n)).collect()

@@ -1,16 +1,17 @@
 //! The frames that are stored with the program, so that it can be held to their answers with no Rust at hand: document
-//! 01's own, then of each sort those that meet something new, then document 02's examples.
+//! 01's own, then of each sort those that meet something new, by their places too, then document 02's examples.
 
-use crate::codec::{self, Asked, CALL, COUNT, HIT, NEXT_CACHE, STATUS, TYPE};
+use crate::codec::{self, Asked, CALL, COUNT, HIT, NEXT_CACHE, PLACES, STATUS, TYPE};
 use crate::sorts::{marked, Frames};
 use crate::{requests, wanted, Frame, LONGEST_LINE};
+use cases::calls::Given;
 use std::collections::{HashMap, HashSet};
 
 const SEED: u64 = 1;
 
 /// How many units are looked through, and how many frames of each sort are stored whatever they meet: of long ones and
 /// of short ones.
-const UNITS: usize = 4000;
+const UNITS: usize = 4068;
 const LONG_OF_A_SORT: usize = 3;
 const SHORT_OF_A_SORT: usize = 24;
 const SHORT: usize = 300;
@@ -32,6 +33,7 @@ pub fn files() -> (Vec<u8>, Vec<u8>) {
 fn frames() -> Vec<Frame> {
     let mut stored = marked::all();
     let (mut things, mut sorts) = (HashSet::new(), HashMap::new());
+    let mut placings = HashSet::new();
     let all = Frames::new(SEED);
     for unit in 0..UNITS {
         let name = all.sorts()[all.sort_of(unit)].name;
@@ -47,10 +49,15 @@ fn frames() -> Vec<Frame> {
                 LONG_OF_A_SORT
             };
             let sort: &mut usize = sorts.entry(name).or_default();
-            if short_enough(&line, &answer)
-                && (things.insert(told(&frame, &answer)) || *sort < most)
-            {
+            if !short_enough(&line, &answer) {
+                continue;
+            }
+            let (thing, placing) = (told(&frame, &answer), placing(&frame, &answer));
+            let new_placing = placing.is_some_and(|placing| placings.insert(placing));
+            if things.insert(thing) || *sort < most {
                 *sort += 1;
+                stored.push(frame);
+            } else if new_placing {
                 stored.push(frame);
             }
         }
@@ -67,6 +74,32 @@ fn short_enough(line: &[u8], answer: &[u8]) -> bool {
     line.len() <= if call { LONGEST_CALL } else { LONGEST_LINE + 1 }
 }
 
+/// What a call's frame asks.
+fn given(frame: &Frame) -> Given {
+    match frame.bytes().map(codec::decode) {
+        Some(Ok(Asked::Call(given))) => given,
+        _ => panic!("an answer to a call that is none"),
+    }
+}
+
+/// What the places of a contact on a face meet: the next type and the hit, how many points there are, whether there are more
+/// than four candidates, and whether the places are 0, 1, 2, .. in this order.
+fn placing(frame: &Frame, answer: &[u8]) -> Option<[u8; 5]> {
+    if answer[0] != CALL + 0x80 || answer[COUNT] == 0 || answer[NEXT_CACHE + TYPE] == 4 {
+        return None;
+    }
+    let next = &answer[NEXT_CACHE..COUNT];
+    let reduced = wanted::candidates(&given(frame), answer) > 4;
+    let in_order = (0..answer[COUNT]).all(|i| answer[PLACES + usize::from(i)] == i);
+    Some([
+        next[TYPE],
+        next[HIT],
+        answer[COUNT],
+        reduced.into(),
+        in_order.into(),
+    ])
+}
+
 /// What a frame meets: the kind of its answer and its fault or status; of a refused hull which rule, and whether the type of
 /// the cache is retired; of any other call that type, of an accepted one also the next type, the hit and how many points. Where
 /// a retired type is marked follows from these: only a call that does no work keeps it.
@@ -76,10 +109,7 @@ fn told(frame: &Frame, answer: &[u8]) -> [u8; 6] {
         let fault = if kind == 0xff { answer[1] } else { 0 };
         return [kind, fault, 0, 0, 0, 0];
     }
-    let bytes = frame.bytes().expect("a call has bytes");
-    let Ok(Asked::Call(given)) = codec::decode(bytes) else {
-        panic!("an answer to a call that is none");
-    };
+    let given = given(frame);
     let status = answer[STATUS];
     let given_type = given.cache.kind.min(9);
     let retired = u8::from(given.cache.has_retired_type());

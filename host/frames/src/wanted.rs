@@ -3,27 +3,50 @@
 
 use crate::codec::{self, Asked, Fault};
 use crate::{hex, LONGEST_LINE};
-use cases::calls::Call;
+#[cfg(rust_text)]
+use cases::calls::Work;
+use cases::calls::{Answer, Call, Given};
 use records::FeaturePair;
+
+/// The answer to a call; none where it cannot be told.
+type ToCall = fn(&Call) -> Option<Answer>;
 
 /// To a line without its end, in bytes. "Faults, in order: ff24 over 20,000 characters, ff21 not lowercase hex or odd",
 /// then those of the frame.
 pub fn to_line(line: &[u8]) -> Option<Vec<u8>> {
-    if line.len() > LONGEST_LINE {
-        return Some(Fault::TooLong.answer());
-    }
-    match hex::read(line) {
-        Some(frame) => to_frame(&frame),
-        None => Some(Fault::NotHex.answer()),
-    }
+    line_by(line, to_call)
+}
+
+/// The same with the work of a call done once, by the copy of the Rust text alone: for what is timed.
+pub fn to_line_once(line: &[u8]) -> Option<Vec<u8>> {
+    line_by(line, to_call_once)
 }
 
 /// To a frame in bytes, however long.
 pub fn to_frame(frame: &[u8]) -> Option<Vec<u8>> {
+    frame_by(frame, to_call)
+}
+
+/// The same with the work of a call done once.
+pub fn to_frame_once(frame: &[u8]) -> Option<Vec<u8>> {
+    frame_by(frame, to_call_once)
+}
+
+fn line_by(line: &[u8], to_call: ToCall) -> Option<Vec<u8>> {
+    if line.len() > LONGEST_LINE {
+        return Some(Fault::TooLong.answer());
+    }
+    match hex::read(line) {
+        Some(frame) => frame_by(&frame, to_call),
+        None => Some(Fault::NotHex.answer()),
+    }
+}
+
+fn frame_by(frame: &[u8], to_call: ToCall) -> Option<Vec<u8>> {
     match codec::decode(frame) {
         Ok(Asked::Root(bits)) => Some(codec::root_answer(root(bits))),
         Ok(Asked::Flip(pair)) => Some(flip(pair)),
-        Ok(Asked::Call(given)) => to_call(&given.call()),
+        Ok(Asked::Call(given)) => to_call(&given.call()).as_ref().map(codec::call_answer),
         Err(fault) => Some(fault.answer()),
     }
 }
@@ -50,12 +73,37 @@ fn flip(pair: FeaturePair) -> Vec<u8> {
     })
 }
 
-fn to_call(call: &Call) -> Option<Vec<u8>> {
-    #[cfg(rust_text)]
-    let answer = Some(call.wanted());
-    #[cfg(not(rust_text))]
-    let answer = call.without_work();
-    answer.as_ref().map(codec::call_answer)
+#[cfg(rust_text)]
+fn to_call(call: &Call) -> Option<Answer> {
+    Some(call.wanted())
+}
+
+#[cfg(rust_text)]
+fn to_call_once(call: &Call) -> Option<Answer> {
+    Some(call.wanted_once())
+}
+
+#[cfg(not(rust_text))]
+fn to_call(call: &Call) -> Option<Answer> {
+    call.without_work()
+}
+
+#[cfg(not(rust_text))]
+use to_call as to_call_once;
+
+/// How many candidates the contact of an answer to this call has.
+#[cfg(rust_text)]
+pub fn candidates(given: &Given, answer: &[u8]) -> usize {
+    let next = codec::read_answer(answer)
+        .expect("the answer to a call")
+        .cache;
+    Work::of_call(&given.call()).candidates(next).len()
+}
+
+/// None that can be told.
+#[cfg(not(rust_text))]
+pub fn candidates(_: &Given, _: &[u8]) -> usize {
+    0
 }
 
 /// The whole output for a whole input: a line for each line, the last of which may lack its end.

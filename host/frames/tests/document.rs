@@ -1,9 +1,9 @@
 //! The codec and the faults are as documents 01 and 02 say.
 
-use cases::calls::{empty, Call};
+use cases::calls::{empty, same_answers, Call};
 use cases::shapes::solids::{block, pyramid};
 use cases::shapes::Shape;
-use frames::codec::{call_answer, call_frame, decode, Asked, HULL_A, LONGEST_ANSWER};
+use frames::codec::{call_answer, call_frame, decode, read_answer, Asked, HULL_A, LONGEST_ANSWER};
 use frames::sorts::marked::WHOLE_CASE;
 use frames::{hex, wanted, LONGEST_LINE};
 use records::{FeaturePair, Point, Quat, SatCache, Transform, Vec3};
@@ -138,7 +138,7 @@ fn a_call_is_laid_out_as_written() {
     assert!(decode(&longer).is_err());
 }
 
-/// A NaN that is handed out has fixed bits; the mark stands last.
+/// A NaN that is handed out has fixed bits; the places stand together behind the points, and the mark last.
 #[test]
 fn an_answer_is_laid_out_as_written() {
     let cache = SatCache {
@@ -170,11 +170,17 @@ fn an_answer_is_laid_out_as_written() {
             owner2: 1,
             index2: 11,
         },
+        place: 7,
     };
     let bytes = call_answer(&answer);
     assert_eq!(bytes.len(), LONGEST_ANSWER);
     let head =
         "9200ffffffff04020601013f8000007fc0000080000000400000004040000040800000bf800000000a010b";
     let zeros = "0".repeat(120);
-    assert_eq!(hex::written(&bytes), format!("{head}{zeros}01").as_bytes());
+    let wanted = format!("{head}{zeros}07ffffff01");
+    assert_eq!(hex::written(&bytes), wanted.as_bytes());
+
+    let read = read_answer(&bytes).expect("it is an answer to a call");
+    assert!(same_answers(&read, &answer));
+    assert!(read_answer(&bytes[1..]).is_none() && read_answer(&bytes[..107]).is_none());
 }

@@ -61,6 +61,8 @@ struct StandIn {
     keeps_hit: bool,
     /// Sets no mark in a call by records.
     unmarked: bool,
+    /// Has place 0 in every point of a call by records.
+    unplaced: bool,
 }
 
 const RIGHT: StandIn = StandIn {
@@ -70,6 +72,7 @@ const RIGHT: StandIn = StandIn {
     shortens: false,
     keeps_hit: false,
     unmarked: false,
+    unplaced: false,
 };
 
 impl Library for StandIn {
@@ -98,6 +101,11 @@ impl Library for StandIn {
         if self.unmarked {
             answer.outcome.retired = 0;
         }
+        if self.unplaced {
+            for point in &mut answer.outcome.contact.points {
+                point.place = 0;
+            }
+        }
         answer
     }
 }
@@ -123,7 +131,7 @@ fn faults_of_a_library_are_told() {
         "the status one higher",
         "a NaN with other bits",
         "a point doubled",
-        "a place above the count not cleared",
+        "a point above the count not cleared",
         "the mark never set",
         "the mark on a refusal",
         "the mark with a capacity below 4",
@@ -131,6 +139,13 @@ fn faults_of_a_library_are_told() {
         "type 9 marked",
         "type 8 not marked",
         "a retired type kept in the next cache",
+        "the second place as the list stands after the first pick",
+        "places always 0, 1, 2, ..",
+        "places of a face of B not carried",
+        "an edge point at place 1",
+        "an unused place 0",
+        "the places behind the mark",
+        "a place doubled",
         "the scalar of a quaternion first",
         "any owner flipped",
     ] {
@@ -153,7 +168,8 @@ fn bytes_outside_the_answer_are_told() {
 
 #[test]
 fn a_call_by_records_is_told() {
-    let (keeps_hit, unmarked) = (true, true);
+    let (keeps_hit, unmarked, unplaced) = (true, true, true);
     assert!(held(StandIn { keeps_hit, ..RIGHT }) > 0);
     assert!(held(StandIn { unmarked, ..RIGHT }) > 0);
+    assert!(held(StandIn { unplaced, ..RIGHT }) > 0);
 }

@@ -2,7 +2,7 @@
 //! of the examples, where that is at hand.
 #![cfg(rust_text)]
 
-use frames::codec::{COUNT, LONGEST_ANSWER, NEXT_CACHE, RETIRED, STATUS};
+use frames::codec::{COUNT, NEXT_CACHE, PLACES, RETIRED, STATUS};
 use frames::requests::{self, Example};
 use frames::{hex, wanted};
 use std::fs;
@@ -22,6 +22,8 @@ fn examples() {
         assert_eq!(answer[STATUS], example.status, "{}", example.words);
         assert_eq!(answer[NEXT_CACHE..COUNT], next, "{}", example.words);
         assert_eq!(answer[COUNT], example.count, "{}", example.words);
+        let places = &answer[PLACES..RETIRED];
+        assert_eq!(places, example.places, "{}", example.words);
         assert_eq!(answer[RETIRED], example.retired, "{}", example.words);
     }
 }
@@ -32,7 +34,17 @@ fn folder() -> Option<PathBuf> {
     folder.is_dir().then_some(folder)
 }
 
-/// Both files of a request have one line an example. The answers of k were written before the mark, and end there.
+/// An answer as it was when the request landed: k's ends before the mark and the places, j's has no places before the mark.
+fn as_landed(letter: char, mut answer: Vec<u8>) -> Vec<u8> {
+    match letter {
+        'k' => answer.truncate(PLACES),
+        'j' => drop(answer.drain(PLACES..RETIRED)),
+        _ => {}
+    }
+    answer
+}
+
+/// Both files of a request have one line an example.
 #[test]
 fn files_of_the_examples() {
     let Some(folder) = folder() else {
@@ -49,16 +61,11 @@ fn files_of_the_examples() {
             lines(format!("{letter}.hex")),
             lines(format!("{letter}.answers")),
         );
-        let length = if letter == 'k' {
-            RETIRED
-        } else {
-            LONGEST_ANSWER
-        };
         assert_eq!([frames.len(), answers.len()], [examples.len(); 2]);
         for (example, (frame, marked)) in examples.iter().zip(frames.iter().zip(&answers)) {
             assert!(example.frame == *frame, "frame of {}", example.words);
-            assert_eq!(marked.len(), length, "{}", example.words);
-            assert!(answer(example).starts_with(marked), "{}", example.words);
+            let ours = as_landed(letter, answer(example));
+            assert_eq!(ours, *marked, "{}", example.words);
         }
     }
 }

@@ -2,7 +2,7 @@
 #![cfg(rust_text)]
 
 use cases::calls::Given;
-use frames::codec::{decode, Asked, RETIRED, STATUS};
+use frames::codec::{decode, Asked, COUNT, NEXT_CACHE, PLACES, RETIRED, STATUS, TYPE};
 use frames::{hex, stored, wanted};
 use records::SatCache;
 use std::collections::HashSet;
@@ -36,6 +36,18 @@ fn given(line: &[u8]) -> Given {
         panic!("the line is no call");
     };
     given
+}
+
+/// What each stored call asks, and its answer.
+fn calls() -> Vec<(Given, Vec<u8>)> {
+    let (input, output) = (read("stdin"), read("stdout"));
+    let bytes = |answer| hex::read(answer).expect("an answer is digits");
+    let answers = output.split(is_end).map(bytes);
+    let calls = input
+        .split(is_end)
+        .zip(answers)
+        .filter(|(_, answer)| answer[0] == 0x92);
+    calls.map(|(line, answer)| (given(line), answer)).collect()
 }
 
 /// Each fault, each refusal that can be met, each rule of either hull, each type of cache and each count of points; the last line lacks its end.
@@ -93,14 +105,8 @@ fn all_that_must_be_is_stored() {
 /// does not ask for another, without the mark.
 #[test]
 fn retired_types_are_stored() {
-    let (input, output) = (read("stdin"), read("stdout"));
     let mut met = HashSet::new();
-    for (line, answer) in input.split(is_end).zip(output.split(is_end)) {
-        let answer = hex::read(answer).expect("an answer is digits");
-        if answer[0] != 0x92 {
-            continue;
-        }
-        let given = given(line);
+    for (given, answer) in calls() {
         if given.cache.has_retired_type() {
             let small = given.capacity < 4;
             met.insert((answer[STATUS], answer[RETIRED], small, given.cache.kind));
@@ -120,4 +126,37 @@ fn retired_types_are_stored() {
             "refusal {refusal}"
         );
     }
+}
+
+/// On a face of A and on one of B: contacts of more than four candidates, their places not in order, and of four or fewer, in
+/// order; an edge point at place 0; and every place that is not used is 255.
+#[test]
+fn places_are_stored() {
+    let mut met = HashSet::new();
+    for (given, answer) in calls() {
+        let (places, unused) = answer[PLACES..RETIRED].split_at(answer[COUNT].into());
+        assert!(unused.iter().all(|&place| place == 255));
+        let next_type = answer[NEXT_CACHE + TYPE];
+        match (places, next_type) {
+            ([], _) => {}
+            (_, 4) => {
+                assert_eq!(places, [0]);
+                met.insert((4, false, true));
+            }
+            _ => {
+                let count = wanted::candidates(&given, &answer);
+                assert!(places.iter().all(|&place| usize::from(place) < count));
+                let in_order = places.iter().copied().eq(0..answer[COUNT]);
+                met.insert((next_type, count > 4, in_order));
+            }
+        }
+    }
+    for next_type in [2, 3] {
+        for reduced in [false, true] {
+            let stored = met.contains(&(next_type, reduced, !reduced));
+            assert!(stored, "type {next_type}, reduced {reduced}");
+        }
+        assert!(!met.contains(&(next_type, false, false)));
+    }
+    assert!(met.contains(&(4, false, true)), "an edge point");
 }

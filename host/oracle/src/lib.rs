@@ -1,5 +1,6 @@
 //! The given Rust text, unchanged and read where it stands, built together with one reading of the helpers that it
-//! lacks: the oracle of everything the text holds. Where the text is not at hand, only the readings are built.
+//! lacks: the oracle of everything the text holds. Beside it stands a copy of hulls.rs with one line put in, which carries a
+//! candidate's place to the point that it becomes. Where the text is not at hand, only the readings are built.
 
 mod awaited;
 pub mod core;
@@ -33,7 +34,7 @@ pub mod open;
 #[cfg(rust_text)]
 pub mod transcribed;
 
-/// The text's six manifold modules.
+/// The text's six manifold modules, and the copy of `hulls`.
 #[cfg(rust_text)]
 pub mod manifold {
     include!(concat!(env!("OUT_DIR"), "/manifold.rs"));

@@ -3,6 +3,8 @@
 
 pub use crate::manifold::clip::{find_incident_face, flip_pair};
 pub use crate::manifold::hulls::collide_hulls;
+/// The same of the copy in which each candidate, and so each point of a face contact, has its place as `triangle_index`.
+pub use crate::manifold::hulls_placed::collide_hulls as collide_hulls_placed;
 pub use crate::manifold::simd_scalar::{embed_index_w, min_index_w, min_w, FloatW};
 pub use crate::manifold::types::{
     make_feature_pair, FeatureOwner, FeaturePair, LocalManifold, LocalManifoldPoint, SatCache,
@@ -134,7 +136,7 @@ pub fn build_polygon(
 }
 
 /// The text's `reduce_manifold_points` of the first `count` points, for a contact with this normal and room for four:
-/// the points that it keeps.
+/// the points that it keeps, each with the `triangle_index` that it was handed over with.
 pub fn reduce_manifold_points(
     normal: Vec3,
     points: &[LocalManifoldPoint],

@@ -1,11 +1,13 @@
 //! Parts of hulls.rs that stand inside its functions and so have no door, transcribed line by line over the text's own
-//! functions: here the cuts of `build_face_a_contact`, in `again` the cached axis of `collide_hulls`.
+//! functions: here the cuts of `build_face_a_contact` and so the candidates of a contact, in `again` the cached axis of
+//! `collide_hulls`.
 
 use crate::hull::{get_hull_edges, get_hull_faces, get_hull_planes, get_hull_points, HullData};
 use crate::manifold::clip::{build_polygon, clip_polygon, find_incident_face};
-use crate::manifold::types::{ClipVertex, MAX_CLIP_POINTS};
+use crate::manifold::types::{ClipVertex, SatCache, SeparatingFeature, MAX_CLIP_POINTS};
 use crate::math_functions::{
-    cross, inv_rotate_vector, make_plane_from_normal_and_point, normalize, sub, Transform,
+    cross, inv_rotate_vector, invert_transform, make_plane_from_normal_and_point, normalize, sub,
+    Transform,
 };
 use crate::open;
 
@@ -13,27 +15,27 @@ pub use again::{again, Again, Crossing, End};
 
 mod again;
 
-/// The text's two buffers. It has them with 64 places; with 128 no cut fills one, and what a full cut puts out can be
-/// read.
-pub struct FaceCuts<const PLACES: usize> {
-    buffer1: [ClipVertex; PLACES],
-    buffer2: [ClipVertex; PLACES],
+/// The text's two buffers. It has them with room for 64; with room for 128 no cut fills one, and what a full cut puts out can
+/// be read.
+pub struct FaceCuts<const ROOM: usize> {
+    buffer1: [ClipVertex; ROOM],
+    buffer2: [ClipVertex; ROOM],
     input_is_buffer1: bool,
     point_count: i32,
 }
 
-impl<const PLACES: usize> Default for FaceCuts<PLACES> {
+impl<const ROOM: usize> Default for FaceCuts<ROOM> {
     fn default() -> Self {
         FaceCuts {
-            buffer1: [ClipVertex::default(); PLACES],
-            buffer2: [ClipVertex::default(); PLACES],
+            buffer1: [ClipVertex::default(); ROOM],
+            buffer2: [ClipVertex::default(); ROOM],
             input_is_buffer1: true,
             point_count: 0,
         }
     }
 }
 
-impl<const PLACES: usize> FaceCuts<PLACES> {
+impl<const ROOM: usize> FaceCuts<ROOM> {
     /// The incident face of B at this vertex, cut by the sides of this face of A: how many corners the last cut leaves.
     /// Fewer than three or more than 64 end it. Panics where the text does.
     #[inline(never)]
@@ -105,4 +107,33 @@ impl<const PLACES: usize> FaceCuts<PLACES> {
         };
         open::first(input, self.point_count)
     }
+}
+
+/// The candidates of the contact of a call that left this cache and has points: none where the axis is no face's. They lie in
+/// the frame of the hull that has the face, whose tags name it as A.
+pub fn candidates(
+    hull_a: &HullData,
+    hull_b: &HullData,
+    transform_b_to_a: Transform,
+    next: &SatCache,
+) -> Vec<open::ClipVertex> {
+    // A hit keeps the numbers of the call before: its vertex was found anew.
+    let hit = next.hit == 1;
+    let mut cuts = FaceCuts::<64>::default();
+    if next.type_ == SeparatingFeature::FaceAxisA as u8 {
+        let vertex = match hit {
+            true => again::support_of_face_a(hull_a, hull_b, transform_b_to_a, next.index_a).0,
+            false => next.index_b.into(),
+        };
+        let face = next.index_a.into();
+        cuts.cut(hull_a, hull_b, transform_b_to_a, face, vertex);
+    } else if next.type_ == SeparatingFeature::FaceAxisB as u8 {
+        let vertex = match hit {
+            true => again::support_of_face_b(hull_a, hull_b, transform_b_to_a, next.index_b).0,
+            false => next.index_a.into(),
+        };
+        let (face, transform_a_to_b) = (next.index_b.into(), invert_transform(transform_b_to_a));
+        cuts.cut(hull_b, hull_a, transform_a_to_b, face, vertex);
+    }
+    cuts.left()
 }

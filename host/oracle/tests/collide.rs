@@ -120,6 +120,8 @@ fn at(p: Vec3) -> Transform {
     }
 }
 
+type Collide = fn(&mut LocalManifold, i32, &HullData, &HullData, Transform, &mut SatCache);
+
 fn collide(x: f32, capacity: i32, cache: &mut SatCache) -> LocalManifold {
     let mut manifold = LocalManifold::default();
     collide_hulls(&mut manifold, capacity, &cube(), &cube(), at_x(x), cache);
@@ -185,6 +187,30 @@ fn touching_faces_tie_and_face_b_wins() {
     let again = collide(2.0, 4, &mut cache);
     assert_eq!(again, manifold);
     assert_eq!(cache.hit, 1);
+}
+
+/// The copy differs from the text in the places alone: the four corners come in their order.
+#[test]
+fn copy_carries_places() {
+    let call = |collide: Collide, type_: u8| {
+        let mut manifold = LocalManifold::default();
+        let mut cache = SatCache {
+            type_,
+            ..SatCache::default()
+        };
+        collide(&mut manifold, 4, &cube(), &cube(), at_x(2.0), &mut cache);
+        (manifold, cache)
+    };
+    for type_ in [0, 3] {
+        let (text, cache) = call(collide_hulls, type_);
+        let (mut copy, copy_cache) = call(collide_hulls_placed, type_);
+        let places = copy.points[..4].iter_mut();
+        let places: Vec<i32> = places
+            .map(|point| std::mem::take(&mut point.triangle_index))
+            .collect();
+        assert_eq!(places, [0, 1, 2, 3]);
+        assert_eq!((text, cache), (copy, copy_cache));
+    }
 }
 
 #[test]

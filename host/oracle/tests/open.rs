@@ -118,7 +118,7 @@ fn six_points_are_reduced_to_four() {
         z: 1.0,
         ..VEC3_ZERO
     };
-    let places = [
+    let positions = [
         at(-1.0, -1.0),
         at(0.0, -1.0),
         at(1.0, -1.0),
@@ -126,13 +126,19 @@ fn six_points_are_reduced_to_four() {
         at(0.0, 1.0),
         at(-1.0, 1.0),
     ];
-    let points = places.map(|point| LocalManifoldPoint {
+    let mut points = positions.map(|point| LocalManifoldPoint {
         point,
         ..LocalManifoldPoint::default()
     });
+    for (point, place) in points.iter_mut().zip(0..) {
+        point.triangle_index = place;
+    }
 
     let four = reduce_manifold_points(normal, &points, 6);
     assert_eq!(four.len(), 4);
+    for kept in &four {
+        assert_eq!(*kept, points[kept.triangle_index as usize]);
+    }
     for corner in [at(-1.0, -1.0), at(1.0, -1.0), at(1.0, 1.0), at(-1.0, 1.0)] {
         assert!(four.iter().any(|kept| kept.point == corner));
     }

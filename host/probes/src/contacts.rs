@@ -104,18 +104,9 @@ pub(super) mod linked {
 
 impl ClipVertex {
     pub const ZERO: ClipVertex = ClipVertex {
-        position: Vec3 {
-            x: 0.0,
-            y: 0.0,
-            z: 0.0,
-        },
+        position: Vec3::ZERO,
         separation: 0.0,
-        pair: FeaturePair {
-            owner1: 0,
-            index1: 0,
-            owner2: 0,
-            index2: 0,
-        },
+        pair: FeaturePair::ZERO,
     };
 }
 

@@ -13,10 +13,13 @@ pub use rule::Rule;
 
 /// The number of these records and of the functions that take them. The library has the number that it was built with
 /// (`contact_abi`), and the header has it too (`CONTACT_ABI`); where two of them differ, nothing is called.
-pub const ABI: u32 = 2;
+pub const ABI: u32 = 3;
 
 /// The most points of a contact, and the least capacity with which a call does any work.
 pub const MAX_MANIFOLD_POINTS: usize = 4;
+
+/// The place of a point that is not used: at or above the count of a contact.
+pub const UNUSED_PLACE: u8 = 255;
 
 /// Three numbers.
 #[derive(Debug, Clone, Copy, PartialEq, Default)]
@@ -77,16 +80,40 @@ pub struct FeaturePair {
     pub index2: u8,
 }
 
+impl FeaturePair {
+    /// The tag of a point that is not used.
+    pub const ZERO: FeaturePair = FeaturePair {
+        owner1: 0,
+        index1: 0,
+        owner2: 0,
+        index2: 0,
+    };
+}
+
 /// A point of a contact, in A's frame; its separation is below zero where the hulls overlap there.
-#[derive(Debug, Clone, Copy, PartialEq, Default)]
+#[derive(Debug, Clone, Copy, PartialEq)]
 #[repr(C)]
 pub struct Point {
     pub position: Vec3,
     pub separation: f32,
     pub pair: FeaturePair,
+    /// Which candidate it was: its place in the list of candidates as it stood before any pick, 0 to 63. Two points of one
+    /// contact never have the same, though two may have one tag and one position. An edge point has place 0, and a point
+    /// that is not used [`UNUSED_PLACE`].
+    pub place: u8,
 }
 
-/// The places at and above the count are zero, and so is the normal where the count is 0.
+impl Point {
+    /// What stands at and above the count of a contact: zero but for its place.
+    pub const UNUSED: Point = Point {
+        position: Vec3::ZERO,
+        separation: 0.0,
+        pair: FeaturePair::ZERO,
+        place: UNUSED_PLACE,
+    };
+}
+
+/// The points at and above the count are [`Point::UNUSED`], and the normal is zero where the count is 0.
 #[derive(Debug, Clone, Copy, PartialEq)]
 #[repr(C)]
 pub struct Contact {
@@ -99,16 +126,7 @@ pub struct Contact {
 impl Contact {
     /// No points.
     pub const EMPTY: Contact = Contact {
-        points: [Point {
-            position: Vec3::ZERO,
-            separation: 0.0,
-            pair: FeaturePair {
-                owner1: 0,
-                index1: 0,
-                owner2: 0,
-                index2: 0,
-            },
-        }; MAX_MANIFOLD_POINTS],
+        points: [Point::UNUSED; MAX_MANIFOLD_POINTS],
         normal: Vec3::ZERO,
         count: 0,
     };

@@ -19,9 +19,9 @@ fn layouts() {
     lies!(HullSize, 24, vertices 0, half_edges 8, faces 16);
     lies!(SatCache, 8, separation 0, kind 4, index_a 5, index_b 6, hit 7);
     lies!(FeaturePair, 4, owner1 0, index1 1, owner2 2, index2 3);
-    lies!(Point, 20, position 0, separation 12, pair 16);
-    lies!(Contact, 96, points 0, normal 80, count 92);
-    lies!(Outcome, 104, status 0, contact 4, retired 100);
+    lies!(Point, 24, position 0, separation 12, pair 16, place 20);
+    lies!(Contact, 112, points 0, normal 96, count 108);
+    lies!(Outcome, 120, status 0, contact 4, retired 116);
 }
 
 #[test]
@@ -55,6 +55,31 @@ fn outcomes() {
     };
     assert_eq!(refused.accepted(), Err(Refusal::CutFull));
     assert!(!refused.retired_type_read());
+}
+
+/// An empty contact is zero but for its places, which are 255.
+#[test]
+fn an_empty_contact() {
+    let Contact {
+        points,
+        normal,
+        count,
+    } = Contact::EMPTY;
+    assert_eq!((normal, count), (Vec3::ZERO, 0));
+    for point in points {
+        assert_eq!((point.position, point.separation), (Vec3::ZERO, 0.0));
+        let FeaturePair {
+            owner1,
+            index1,
+            owner2,
+            index2,
+        } = point.pair;
+        assert_eq!(
+            [owner1, index1, owner2, index2, point.place],
+            [0, 0, 0, 0, 255]
+        );
+    }
+    assert!(Contact::EMPTY.points().is_empty());
 }
 
 /// The lengths that the sizes ask for, and none where no list is so long.

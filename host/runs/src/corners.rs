@@ -22,22 +22,21 @@ pub fn our_corner(v: &open::ClipVertex) -> ClipVertex {
     }
 }
 
-/// A point as the candidate that it was.
-pub fn our_point(v: &open::LocalManifoldPoint) -> ClipVertex {
-    ClipVertex {
-        position: ours(v.point),
-        separation: v.separation,
-        pair: our_pair(v.pair),
-    }
+/// Whether both have one tag and one position, bit for bit: only their places tell them apart.
+pub fn twins(a: &ClipVertex, b: &ClipVertex) -> bool {
+    let bits = |v: &ClipVertex| [v.position.x, v.position.y, v.position.z].map(f32::to_bits);
+    a.pair == b.pair && bits(a) == bits(b)
 }
 
+/// Each with its place in the list.
 pub fn points(list: &[ClipVertex]) -> Vec<open::LocalManifoldPoint> {
     list.iter()
-        .map(|v| open::LocalManifoldPoint {
+        .zip(0..)
+        .map(|(v, place)| open::LocalManifoldPoint {
             point: vector(v.position),
             separation: v.separation,
             pair: pair(v.pair),
-            triangle_index: 0,
+            triangle_index: place,
         })
         .collect()
 }

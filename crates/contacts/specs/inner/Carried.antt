@@ -1,4 +1,5 @@
--- Inner: a contact carried from B's frame into A's place by place, as the code does it; crates/contacts/proofs/Turned.antt shows that this is `contactOnB`.
+-- Inner: a contact carried from B's frame into A's, point by point, as the code does it; crates/contacts/proofs/Turned.antt shows that this is
+-- `contactOnB`.
 -- Definitions only.
 use Prim.Native.Nat.{ℕ}
 use mathlib.Core.Bool.{cond}
@@ -19,14 +20,15 @@ carriedPoint matrix p point = record {
   position = addOf (mulMvOf matrix (point .position)) p;
   separation = point .separation;
   pair = flipOf (point .pair) .pair;
+  place = point .place;
 }
 
--- places at and above the count stay as they are
-unfoldable pub carriedPlace : Rows → Vec3 → ℕ → ℕ → Point → Point
-carriedPlace matrix p count place point = cond (ltb place count) (carriedPoint matrix p point) point
+-- point i of a contact: those at and above the count are unused, and stay so
+unfoldable pub carriedIfUsed : Rows → Vec3 → ℕ → ℕ → Point → Point
+carriedIfUsed matrix p count i point = cond (ltb i count) (carriedPoint matrix p point) point
 
 unfoldable pub carriedContact : Transform → Contact → Contact
 carriedContact x contact =
-    let at : ℕ → Point = λ i. carriedPlace (matrixOf (x .q)) (x .p) (contact .count) i (getD (contact .points) i pastPoint) in
+    let at : ℕ → Point = λ i. carriedIfUsed (matrixOf (x .q)) (x .p) (contact .count) i (getD (contact .points) i pastPoint) in
     cond (eqb (contact .count) 0) contact
     (record { points = at 0 ∷ at 1 ∷ at 2 ∷ at 3 ∷ []; normal = negOf (mulMvOf (matrixOf (x .q)) (contact .normal)); count = contact .count })

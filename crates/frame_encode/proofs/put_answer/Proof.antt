@@ -1,4 +1,4 @@
--- The head, the points behind it, and the mark.
+-- The head, the points behind it, their candidates' places, and the mark.
 use mathlib.Core.Path.{refl}
 use Rattle.frame_encode.proofs.Written.{then}
 use Rattle.frame_encode.specs.Bytes.{answerBytes}
@@ -12,6 +12,9 @@ put-head-requires c κs = search needs
 put-points-requires : tie.Need-put-points-requires
 put-points-requires c κs = search needs
 
+put-places-requires : tie.Need-put-places-requires
+put-places-requires c κs = search needs
+
 put-byte-requires : tie.Need-put-byte-requires
 put-byte-requires c κs = search needs
 
@@ -20,8 +23,13 @@ same-length c = search needs
 
 returns : tie.Need-returns
 unfolding answerBytes
-returns c = then (then (c .before .before .before .before .before .before .before .before .before .before .before .put-head .ensures)
-    (c .before .before .before .before .before .before .put-points .ensures) refl) (c .before .before .put-byte .ensures) refl
+returns c =
+    let mark = c .before .before in
+    let places = mark .before .before .before .before in
+    let points = places .before .before .before .before in
+    let head = points .before .before .before .before .before in
+    then (then (then (head .put-head .ensures) (points .put-points .ensures) refl) (places .put-places .ensures) refl) (mark .put-byte .ensures) refl
 
 pub put-answer-spec : {M : Type 1} → statement M
-put-answer-spec = tie.close (tie.spec put-head-requires put-points-requires put-byte-requires same-length returns)
+put-answer-spec =
+    tie.close (tie.spec put-head-requires put-points-requires put-places-requires put-byte-requires same-length returns)

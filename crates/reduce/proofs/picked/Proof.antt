@@ -1,7 +1,7 @@
 -- `picked`: each loop's best is the best of the first i that are left, by the definition; what a search finds is read at its place, and is what the
 -- definition picks.
 use Prim.Native.Nat.{ℕ, _-_, _≤_, _<_}
-use mathlib.Core.Path.{_≡_, refl, sym, ap, _∙_}
+use mathlib.Core.Path.{_≡_, refl, sym, ap, ap₂, _∙_}
 use mathlib.Core.Bool.{false}
 use mathlib.Core.List.{List, [], _∷_}
 use native.Mathlib.Omega.{arith}
@@ -12,16 +12,17 @@ use borrow.Author.Needs.{needs}
 use Rattle.vector.specs.Rounded.{float}
 use Rattle.vector.specs.Scalar.{absOf}
 use Rattle.manifold.specs.declared.ClipVertex.{ClipVertex}
-use Rattle.manifold.specs.Records.{pastVertex}
+use Rattle.manifold.specs.declared.Point.{Point}
+use Rattle.manifold.specs.Records.{pastVertex, pastPoint}
 use Rattle.manifold.specs.Polygons.{cornersOf}
 use Rattle.reduce_scores.specs.declared.Triangle.{Triangle}
 use Rattle.reduce_scores.specs.Images.{largest}
 use Rattle.reduce_scores.specs.Scores.{betterPickOf, asGoodOf, firstTurn, signedAreaOf, triangleOf}
 use Rattle.reduce_scores.proofs.Over.{over, start-over}
-use Rattle.reduce_points.specs.Points.{normalOf, contactOf}
+use Rattle.reduce_points.specs.Points.{pointOf, placed, normalOf, contactOf}
 use Rattle.reduce.specs.Reduce.{tolerance, standing, taken, firstBest, secondBest, thirdBest, fourthBest, firstPicks, secondPicks, thirdPicks}
 use Rattle.reduce.specs.Reduce.{fourthPicks}
-use Rattle.reduce.proofs.Standing.{left, stands, stands-third, place-low, read-left, length-left-of}
+use Rattle.reduce.proofs.Standing.{left, stands, stands-third, place-low, read-left, point-left, length-left-of}
 use Rattle.reduce.proofs.Answers.{nothing, secondTurn, thirdTurn, fourthTurn, search-turn, search-end, first-low, second-low, third-low}
 use Rattle.reduce.proofs.Answers.{fourth-low, third-end, fourth-end, folded}
 use Rattle.reduce.proofs.Picks.{no-first, a-first, no-second, a-second, no-third, a-third, no-fourth, a-fourth}
@@ -29,31 +30,31 @@ use Rattle.reduce.proofs.picked.Statement.{statement}
 use Rattle.reduce.proofs.picked.Tie as tie
 
 abbrev Inv-loop : tie.InvT-loop
-Inv-loop normal direction points n first₀ i₀ first i = (i ≤ n) × (first ≡ over (firstTurn direction) (nothing (neg largest)) (cornersOf points) i)
+Inv-loop normal direction images n first₀ i₀ first i = (i ≤ n) × (first ≡ over (firstTurn direction) (nothing (neg largest)) (cornersOf images) i)
 
 abbrev μ-loop : tie.MeasureT-loop
-μ-loop normal direction points n first₀ i₀ first i = n - i
+μ-loop normal direction images n first₀ i₀ first i = n - i
 
 abbrev Inv-loop2 : tie.InvT-loop2
-Inv-loop2 normal points n i j1 v1 a left2 second₀ i2₀ second i2 =
-    (i2 ≤ left2) × (second ≡ over (secondTurn normal a) (nothing (float 0)) (left pastVertex (cornersOf points) (j1 ∷ [])) i2)
+Inv-loop2 normal images n i j1 p1 a left2 second₀ i2₀ second i2 =
+    (i2 ≤ left2) × (second ≡ over (secondTurn normal a) (nothing (float 0)) (left pastVertex (cornersOf images) (j1 ∷ [])) i2)
 
 abbrev μ-loop2 : tie.MeasureT-loop2
-μ-loop2 normal points n i j1 v1 a left2 second₀ i2₀ second i2 = left2 - i2
+μ-loop2 normal images n i j1 p1 a left2 second₀ i2₀ second i2 = left2 - i2
 
 abbrev Inv-loop3 : tie.InvT-loop3
-Inv-loop3 normal points n i j1 v1 a left2 i2 j2 place2 v2 b ba left3 third₀ i3₀ third i3 =
-    (i3 ≤ left3) × (third ≡ over (thirdTurn normal a ba) (nothing tolerance) (left pastVertex (cornersOf points) (j1 ∷ j2 ∷ [])) i3)
+Inv-loop3 normal images n i j1 p1 a left2 i2 j2 place2 p2 b ba left3 third₀ i3₀ third i3 =
+    (i3 ≤ left3) × (third ≡ over (thirdTurn normal a ba) (nothing tolerance) (left pastVertex (cornersOf images) (j1 ∷ j2 ∷ [])) i3)
 
 abbrev μ-loop3 : tie.MeasureT-loop3
-μ-loop3 normal points n i j1 v1 a left2 i2 j2 place2 v2 b ba left3 third₀ i3₀ third i3 = left3 - i3
+μ-loop3 normal images n i j1 p1 a left2 i2 j2 place2 p2 b ba left3 third₀ i3₀ third i3 = left3 - i3
 
 abbrev Inv-loop4 : tie.InvT-loop4
-Inv-loop4 normal points n i j1 v1 left2 i2 j2 place2 v2 left3 i3 j3 place3 v3 t left4 fourth₀ i4₀ fourth i4 =
-    (i4 ≤ left4) × (fourth ≡ over (fourthTurn normal t) (nothing tolerance) (left pastVertex (cornersOf points) (j1 ∷ j2 ∷ j3 ∷ [])) i4)
+Inv-loop4 normal images n i j1 p1 left2 i2 j2 place2 p2 left3 i3 j3 place3 p3 t left4 fourth₀ i4₀ fourth i4 =
+    (i4 ≤ left4) × (fourth ≡ over (fourthTurn normal t) (nothing tolerance) (left pastVertex (cornersOf images) (j1 ∷ j2 ∷ j3 ∷ [])) i4)
 
 abbrev μ-loop4 : tie.MeasureT-loop4
-μ-loop4 normal points n i j1 v1 left2 i2 j2 place2 v2 left3 i3 j3 place3 v3 t left4 fourth₀ i4₀ fourth i4 = left4 - i4
+μ-loop4 normal images n i j1 p1 left2 i2 j2 place2 p2 left3 i3 j3 place3 p3 t left4 fourth₀ i4₀ fourth i4 = left4 - i4
 
 -- ---- where the code stands: at the start, and once the places of one, two, three and four picks are known
 abbrev Start : Type 0
@@ -75,19 +76,19 @@ abbrev start1 : One → Start
 start1 c = c .before .before .before .before
 
 abbrev one : Two → One
-one c = c .before .before .before .before .before .before .before
+one c = c .before .before .before .before .before .before .before .before
 
 abbrev start2 : Two → Start
 start2 c = start1 (one c)
 
 abbrev two : Three → Two
-two c = c .before .before .before .before .before .before .before .before
+two c = c .before .before .before .before .before .before .before .before .before
 
 abbrev start3 : Three → Start
 start3 c = start2 (two c)
 
 abbrev three : Four → Three
-three c = c .before .before .before .before .before .before .before
+three c = c .before .before .before .before .before .before .before .before
 
 -- the picks so far, and what is left
 abbrev j1 : One → ℕ
@@ -111,8 +112,15 @@ js3 c = j1 (one (two c)) ∷ j2 (two c) ∷ j3 c ∷ []
 abbrev rest : Start → List ℕ → List ClipVertex
 rest c js = left pastVertex (cornersOf (c .args .t1)) js
 
+-- the same of the points with their places
+abbrev restPoints : Start → List ℕ → List Point
+restPoints c js = left pastPoint (placed (cornersOf (c .args .t1))) js
+
 abbrev at : Start → ℕ → ClipVertex
 at c place = getD (c .args .t1 .vertices) place pastVertex
+
+abbrev pointAt : Start → ℕ → Point
+pointAt c place = pointOf place (at c place)
 
 abbrev v1 : One → ClipVertex
 v1 c = at (start1 c) (j1 c)
@@ -123,9 +131,18 @@ v2 c = at (start2 c) (c .standing12 .result)
 abbrev v3 : Three → ClipVertex
 v3 c = at (start3 c) (c .standing22 .result)
 
+abbrev p1 : One → Point
+p1 c = pointAt (start1 c) (j1 c)
+
+abbrev p2 : Two → Point
+p2 c = pointAt (start2 c) (c .standing12 .result)
+
+abbrev p3 : Three → Point
+p3 c = pointAt (start3 c) (c .standing22 .result)
+
 -- what the definition takes of all
-abbrev all : Start → List ClipVertex
-all c = taken pastVertex (firstPicks (c .args .direction) (c .args .normal) (cornersOf (c .args .t1))) (cornersOf (c .args .t1))
+abbrev all : Start → List Point
+all c = taken pastPoint (firstPicks (c .args .direction) (c .args .normal) (cornersOf (c .args .t1))) (placed (cornersOf (c .args .t1)))
 
 -- ---- any search: what it finds lies below the number left, and its place below 64
 long : (c : Start) → c .args .t1 .count ≤ length (c .args .t1 .vertices)
@@ -140,6 +157,10 @@ low c js i place h e = omega (arith, c .pre .0, place-low pastVertex (c .args .t
 reads : (c : Start) (js : List ℕ) (i place : ℕ) → i < c .args .t1 .count - length js → place ≡ stands (c .args .t1 .count) js i
     → at c place ≡ getD (rest c js) i pastVertex
 reads c = read-left pastVertex (c .args .t1 .vertices) (c .args .t1 .count) (long c)
+
+says : (c : Start) (js : List ℕ) (i place : ℕ) → i < c .args .t1 .count - length js → place ≡ stands (c .args .t1 .count) js i
+    → pointAt c place ≡ getD (restPoints c js) i pastPoint
+says c = point-left (c .args .t1 .vertices) (c .args .t1 .count) (long c)
 
 -- ---- the first search and its pick
 first-is : (c : tie.After-loop Inv-loop μ-loop Inv-loop2 μ-loop2 Inv-loop3 μ-loop3 Inv-loop4 μ-loop4)
@@ -158,29 +179,30 @@ first-index c =
     index-low (start1 c) [] (j1 c) (first-low (a .direction) (cornersOf (a .t1)) (c .before .before .before .loop .first)
     (first-is (c .before .before)) (not-false _ (c .if1 .left)))
 
-one-taken : (c : One) → v1 c ∷ taken pastVertex (secondPicks (start1 c .args .normal) (v1 c) (rest (start1 c) (js1 c)))
-    (rest (start1 c) (js1 c)) ≡ all (start1 c)
+one-taken : (c : One) → p1 c ∷ taken pastPoint (secondPicks (start1 c .args .normal) (v1 c) (rest (start1 c) (js1 c)))
+    (restPoints (start1 c) (js1 c)) ≡ all (start1 c)
 one-taken c =
     let start = start1 c in
     let a = start .args in
     let best = c .before .before .before .loop .first in
-    a-first (a .normal) (a .direction) (cornersOf (a .t1)) best (first-is (c .before .before)) (v1 c)
-    (reads start [] (best .index) (best .index) (first-index c) refl) (not-false _ (c .if1 .left))
+    a-first (a .normal) (a .direction) (cornersOf (a .t1)) (placed (cornersOf (a .t1))) best (first-is (c .before .before)) (v1 c) (p1 c)
+    (reads start [] (best .index) (best .index) (first-index c) refl) (says start [] (best .index) (best .index) (first-index c) refl)
+    (not-false _ (c .if1 .left))
 
 one-low : (c : One) → j1 c < 64
 one-low c = omega (arith, first-index c, start1 c .pre .0)
 
 -- ---- the second
 turn2-low : (c : tie.After-standing1 Inv-loop μ-loop Inv-loop2 μ-loop2 Inv-loop3 μ-loop3 Inv-loop4 μ-loop4) → c .standing1 .result < 64
-turn2-low c = let first = c .before .before .before .before .before in
+turn2-low c = let first = c .before .before .before .before .before .before in
     low (start1 first) (js1 first) (c .before .before .loop2 .i2) (c .standing1 .result) (c .before .loop2-test .taken) (c .standing1 .ensures)
 
 second-is : (c : tie.After-loop2 Inv-loop μ-loop Inv-loop2 μ-loop2 Inv-loop3 μ-loop3 Inv-loop4 μ-loop4)
-    → c .before .loop2 .second ≡ secondBest (start1 (c .before .before .before .before) .args .normal)
-    (v1 (c .before .before .before .before) .position) (rest (start1 (c .before .before .before .before)) (js1 (c .before .before .before .before)))
+    → let first = c .before .before .before .before .before in
+    c .before .loop2 .second ≡ secondBest (start1 first .args .normal) (v1 first .position) (rest (start1 first) (js1 first))
 unfolding secondBest
 second-is c =
-    let first = c .before .before .before .before in
+    let first = c .before .before .before .before .before in
     let start = start1 first in
     let a = start .args in
     let l = c .before .loop2 in
@@ -195,9 +217,9 @@ enough c =
     ap (lt score) (sym folded) ∙ above
 
 second-index : (c : tie.Else2 Inv-loop μ-loop Inv-loop2 μ-loop2 Inv-loop3 μ-loop3 Inv-loop4 μ-loop4)
-    → c .before .before .before .loop2 .second .index < start1 (c .before .before .before .before .before .before) .args .t1 .count - 1
+    → c .before .before .before .loop2 .second .index < start1 (c .before .before .before .before .before .before .before) .args .t1 .count - 1
 second-index c =
-    let first = c .before .before .before .before .before .before in
+    let first = c .before .before .before .before .before .before .before in
     let start = start1 first in
     let best = c .before .before .before .loop2 .second in
     index-low start (js1 first) (best .index) (second-low (start .args .normal) (v1 first .position) (rest start (js1 first)) best
@@ -206,28 +228,29 @@ second-index c =
 two-low : (c : Two) → c .standing12 .result < 64
 two-low c = low (start2 c) (js1 (one c)) (j2 c) (c .standing12 .result) (second-index (c .before)) (c .standing12 .ensures)
 
-two-taken : (c : Two) → v1 (one c) ∷ v2 c ∷ taken pastVertex (thirdPicks (start2 c .args .normal) (v1 (one c)) (v2 c) (rest (start2 c) (js2 c)))
-    (rest (start2 c) (js2 c)) ≡ all (start2 c)
+two-taken : (c : Two) → p1 (one c) ∷ p2 c ∷ taken pastPoint (thirdPicks (start2 c .args .normal) (v1 (one c)) (v2 c) (rest (start2 c) (js2 c)))
+    (restPoints (start2 c) (js2 c)) ≡ all (start2 c)
 two-taken c =
     let start = start2 c in
     let js = js1 (one c) in
     let best = c .before .before .before .before .loop2 .second in
-    ap (λ (vs : List ClipVertex). v1 (one c) ∷ vs)
-    (a-second (start .args .normal) (v1 (one c)) (rest start js) best (second-is (c .before .before .before)) (v2 c)
-    (reads start js (best .index) (c .standing12 .result) (second-index (c .before)) (c .standing12 .ensures)) (enough (c .before)))
+    ap (λ (ps : List Point). p1 (one c) ∷ ps)
+    (a-second (start .args .normal) (v1 (one c)) (rest start js) (restPoints start js) best (second-is (c .before .before .before)) (v2 c) (p2 c)
+    (reads start js (best .index) (c .standing12 .result) (second-index (c .before)) (c .standing12 .ensures))
+    (says start js (best .index) (c .standing12 .result) (second-index (c .before)) (c .standing12 .ensures)) (enough (c .before)))
     ∙ one-taken (one c)
 
 -- ---- the third
 turn3-low : (c : tie.After-standing2 Inv-loop μ-loop Inv-loop2 μ-loop2 Inv-loop3 μ-loop3 Inv-loop4 μ-loop4) → c .standing2 .result < 64
-turn3-low c = let second = c .before .before .before .before .before .before in
+turn3-low c = let second = c .before .before .before .before .before .before .before in
     low (start2 second) (js2 second) (c .before .before .loop3 .i3) (c .standing2 .result) (c .before .loop3-test .taken) (c .standing2 .ensures)
 
 third-is : (c : tie.After-loop3 Inv-loop μ-loop Inv-loop2 μ-loop2 Inv-loop3 μ-loop3 Inv-loop4 μ-loop4)
-    → c .before .loop3 .third ≡ thirdBest (start2 (c .before .before .before .before .before) .args .normal) tolerance
-    (v1 (one (c .before .before .before .before .before)) .position) (v2 (c .before .before .before .before .before) .position)
-    (rest (start2 (c .before .before .before .before .before)) (js2 (c .before .before .before .before .before)))
+    → let second = c .before .before .before .before .before .before in
+    c .before .loop3 .third ≡ thirdBest (start2 second .args .normal) tolerance (v1 (one second) .position) (v2 second .position)
+    (rest (start2 second) (js2 second))
 third-is c =
-    let second = c .before .before .before .before .before in
+    let second = c .before .before .before .before .before .before in
     let start = start2 second in
     let a = start .args in
     let l = c .before .loop3 in
@@ -237,9 +260,9 @@ third-is c =
     (a .t1 .count) (long start) (js2 second) (l .third) (l .i3) (l .inv .0) (c .loop3-test .left) (l .inv .1))
 
 third-index : (c : tie.Else3 Inv-loop μ-loop Inv-loop2 μ-loop2 Inv-loop3 μ-loop3 Inv-loop4 μ-loop4)
-    → c .before .before .before .loop3 .third .index < start2 (c .before .before .before .before .before .before .before) .args .t1 .count - 2
+    → c .before .before .before .loop3 .third .index < start2 (c .before .before .before .before .before .before .before .before) .args .t1 .count - 2
 third-index c =
-    let second = c .before .before .before .before .before .before .before in
+    let second = c .before .before .before .before .before .before .before .before in
     let start = start2 second in
     let best = c .before .before .before .loop3 .third in
     index-low start (js2 second) (best .index) (third-low (start .args .normal) (v1 (one second) .position) (v2 second .position)
@@ -248,16 +271,17 @@ third-index c =
 three-low : (c : Three) → c .standing22 .result < 64
 three-low c = low (start3 c) (js2 (two c)) (j3 c) (c .standing22 .result) (third-index (c .before)) (c .standing22 .ensures)
 
-three-taken : (c : Three) → v1 (one (two c)) ∷ v2 (two c) ∷ v3 c
-    ∷ taken pastVertex (fourthPicks (start3 c .args .normal) (v1 (one (two c))) (v2 (two c)) (v3 c) (rest (start3 c) (js3 c)))
-    (rest (start3 c) (js3 c)) ≡ all (start3 c)
+three-taken : (c : Three) → p1 (one (two c)) ∷ p2 (two c) ∷ p3 c
+    ∷ taken pastPoint (fourthPicks (start3 c .args .normal) (v1 (one (two c))) (v2 (two c)) (v3 c) (rest (start3 c) (js3 c)))
+    (restPoints (start3 c) (js3 c)) ≡ all (start3 c)
 three-taken c =
     let start = start3 c in
     let js = js2 (two c) in
     let best = c .before .before .before .before .loop3 .third in
-    ap (λ (vs : List ClipVertex). v1 (one (two c)) ∷ v2 (two c) ∷ vs)
-    (a-third (start .args .normal) (v1 (one (two c))) (v2 (two c)) (rest start js) best (third-is (c .before .before .before)) (v3 c)
-    (reads start js (best .index) (c .standing22 .result) (third-index (c .before)) (c .standing22 .ensures)) (not-false _ (c .before .if3 .left)))
+    ap (λ (ps : List Point). p1 (one (two c)) ∷ p2 (two c) ∷ ps)
+    (a-third (start .args .normal) (v1 (one (two c))) (v2 (two c)) (rest start js) (restPoints start js) best (third-is (c .before .before .before))
+    (v3 c) (p3 c) (reads start js (best .index) (c .standing22 .result) (third-index (c .before)) (c .standing22 .ensures))
+    (says start js (best .index) (c .standing22 .result) (third-index (c .before)) (c .standing22 .ensures)) (not-false _ (c .before .if3 .left)))
     ∙ two-taken (two c)
 
 -- ---- the fourth
@@ -268,7 +292,7 @@ place4 : (c : Three) (i place : ℕ) → (let n = start3 c .args .t1 .count in
 place4 c i place e = e ∙ stands-third (start3 c .args .t1 .count) (j1 (one (two c))) (j2 (two c)) (j3 c) i
 
 turn4-low : (c : tie.After-standing3 Inv-loop μ-loop Inv-loop2 μ-loop2 Inv-loop3 μ-loop3 Inv-loop4 μ-loop4) → c .standing3 .result < 64
-turn4-low c = let third = c .before .before .before .before .before in
+turn4-low c = let third = c .before .before .before .before .before .before in
     low (start3 third) (js3 third) (c .before .before .loop4 .i4) (c .standing3 .result) (c .before .loop4-test .taken)
     (place4 third (c .before .before .loop4 .i4) (c .standing3 .result) (c .standing3 .ensures))
 
@@ -276,14 +300,14 @@ abbrev triangle : Three → Triangle
 triangle c = triangleOf (start3 c .args .normal) (v1 (one (two c)) .position) (v2 (two c) .position) (v3 c .position)
 
 triangle-is : (c : tie.After-first-three Inv-loop μ-loop Inv-loop2 μ-loop2 Inv-loop3 μ-loop3 Inv-loop4 μ-loop4)
-    → c .first-three .result ≡ triangle (c .before .before)
+    → c .first-three .result ≡ triangle (c .before .before .before)
 triangle-is c = c .first-three .ensures
 
 fourth-is : (c : tie.After-loop4 Inv-loop μ-loop Inv-loop2 μ-loop2 Inv-loop3 μ-loop3 Inv-loop4 μ-loop4)
-    → c .before .loop4 .fourth ≡ fourthBest (start3 (c .before .before .before .before) .args .normal) tolerance
-    (triangle (c .before .before .before .before)) (rest (start3 (c .before .before .before .before)) (js3 (c .before .before .before .before)))
+    → let third = c .before .before .before .before .before in
+    c .before .loop4 .fourth ≡ fourthBest (start3 third .args .normal) tolerance (triangle third) (rest (start3 third) (js3 third))
 fourth-is c =
-    let third = c .before .before .before .before in
+    let third = c .before .before .before .before .before in
     let start = start3 third in
     let a = start .args in
     let l = c .before .loop4 in
@@ -293,9 +317,9 @@ fourth-is c =
     (long start) (js3 third) (l .fourth) (l .i4) (l .inv .0) (c .loop4-test .left) (l .inv .1))
 
 fourth-index : (c : tie.Else4 Inv-loop μ-loop Inv-loop2 μ-loop2 Inv-loop3 μ-loop3 Inv-loop4 μ-loop4)
-    → c .before .before .before .loop4 .fourth .index < start3 (c .before .before .before .before .before .before) .args .t1 .count - 3
+    → c .before .before .before .loop4 .fourth .index < start3 (c .before .before .before .before .before .before .before) .args .t1 .count - 3
 fourth-index c =
-    let third = c .before .before .before .before .before .before in
+    let third = c .before .before .before .before .before .before .before in
     let start = start3 third in
     let best = c .before .before .before .loop4 .fourth in
     index-low start (js3 third) (best .index) (fourth-low (start .args .normal) (triangle third) (rest start (js3 third)) best
@@ -308,19 +332,39 @@ four-low c =
     low (start3 third) (js3 third) (best .index) (c .standing32 .result) (fourth-index (c .before))
     (place4 third (best .index) (c .standing32 .result) (c .standing32 .ensures))
 
-four-taken : (c : Four) → v1 (one (two (three c))) ∷ v2 (two (three c)) ∷ v3 (three c) ∷ at (start3 (three c)) (c .standing32 .result)
+four-taken : (c : Four) → p1 (one (two (three c))) ∷ p2 (two (three c)) ∷ p3 (three c) ∷ pointAt (start3 (three c)) (c .standing32 .result)
     ∷ [] ≡ all (start3 (three c))
 four-taken c =
     let third = three c in
     let second = two third in
     let start = start3 third in
+    let js = js3 third in
     let best = c .before .before .before .before .loop4 .fourth in
-    ap (λ (vs : List ClipVertex). v1 (one second) ∷ v2 second ∷ v3 third ∷ vs)
-    (a-fourth (start .args .normal) (v1 (one second)) (v2 second) (v3 third) (rest start (js3 third)) best (fourth-is (c .before .before .before))
-    (at start (c .standing32 .result))
-    (reads start (js3 third) (best .index) (c .standing32 .result) (fourth-index (c .before))
+    ap (λ (ps : List Point). p1 (one second) ∷ p2 second ∷ p3 third ∷ ps)
+    (a-fourth (start .args .normal) (v1 (one second)) (v2 second) (v3 third) (rest start js) (restPoints start js) best
+    (fourth-is (c .before .before .before)) (pointAt start (c .standing32 .result))
+    (says start js (best .index) (c .standing32 .result) (fourth-index (c .before))
     (place4 third (best .index) (c .standing32 .result) (c .standing32 .ensures))) (not-false _ (c .before .if4 .left)))
     ∙ three-taken third
+
+-- the points as the code makes them
+abbrev made1 : Two → tie.After-point-of Inv-loop μ-loop Inv-loop2 μ-loop2 Inv-loop3 μ-loop3 Inv-loop4 μ-loop4
+made1 c = c .before .before .before .before .before .before
+
+abbrev made2 : Three → tie.After-point-of2 Inv-loop μ-loop Inv-loop2 μ-loop2 Inv-loop3 μ-loop3 Inv-loop4 μ-loop4
+made2 c = c .before .before .before .before .before .before .before
+
+abbrev made3 : Four → tie.After-point-of3 Inv-loop μ-loop Inv-loop2 μ-loop2 Inv-loop3 μ-loop3 Inv-loop4 μ-loop4
+made3 c = c .before .before .before .before .before .before
+
+told1 : (c : tie.After-point-of Inv-loop μ-loop Inv-loop2 μ-loop2 Inv-loop3 μ-loop3 Inv-loop4 μ-loop4) → c .point-of .result ≡ p1 (c .before .before)
+told1 c = c .point-of .ensures
+
+told2 : (c : tie.After-point-of2 Inv-loop μ-loop Inv-loop2 μ-loop2 Inv-loop3 μ-loop3 Inv-loop4 μ-loop4) → c .point-of2 .result ≡ p2 (c .before .before)
+told2 c = c .point-of2 .ensures
+
+told3 : (c : tie.After-point-of3 Inv-loop μ-loop Inv-loop2 μ-loop2 Inv-loop3 μ-loop3 Inv-loop4 μ-loop4) → c .point-of3 .result ≡ p3 (c .before .before)
+told3 c = c .point-of3 .ensures
 
 loop-holds : tie.Need-loop-holds Inv-loop μ-loop Inv-loop2 μ-loop2 Inv-loop3 μ-loop3 Inv-loop4 μ-loop4
 loop-holds c = (omega arith, start-over (firstTurn (c .args .direction)) (nothing (neg largest)) (cornersOf (c .args .t1)))
@@ -360,8 +404,8 @@ returns c =
     let start = c .before .before .before .before .before in
     let a = start .args in
     c .empty-contact .ensures
-    ∙ ap (contactOf (a .normal)) (no-first (a .normal) (a .direction) (cornersOf (a .t1)) (c .before .before .before .before .loop .first)
-    (first-is (c .before .before .before)) (not-true _ (c .before .if1 .taken)))
+    ∙ ap (contactOf (a .normal)) (no-first (a .normal) (a .direction) (cornersOf (a .t1)) (placed (cornersOf (a .t1)))
+    (c .before .before .before .before .loop .first) (first-is (c .before .before .before)) (not-true _ (c .before .if1 .taken)))
 
 mul-v1 : tie.Need-mul-v1 Inv-loop μ-loop Inv-loop2 μ-loop2 Inv-loop3 μ-loop3 Inv-loop4 μ-loop4
 mul-v1 c = omega (arith, one-low c)
@@ -369,16 +413,23 @@ mul-v1 c = omega (arith, one-low c)
 element-copy-out-v1 : tie.Need-element-copy-out-v1 Inv-loop μ-loop Inv-loop2 μ-loop2 Inv-loop3 μ-loop3 Inv-loop4 μ-loop4
 element-copy-out-v1 c = omega (arith, one-low c)
 
+cast-point-of : tie.Need-cast-point-of Inv-loop μ-loop Inv-loop2 μ-loop2 Inv-loop3 μ-loop3 Inv-loop4 μ-loop4
+cast-point-of c = omega (arith, one-low (c .before))
+
+point-of-requires : tie.Need-point-of-requires Inv-loop μ-loop Inv-loop2 μ-loop2 Inv-loop3 μ-loop3 Inv-loop4 μ-loop4
+point-of-requires c κs = search needs
+
 sub-left2 : tie.Need-sub-left2 Inv-loop μ-loop Inv-loop2 μ-loop2 Inv-loop3 μ-loop3 Inv-loop4 μ-loop4
-sub-left2 c = omega (arith, start1 (c .before .before) .pre .1)
+sub-left2 c = omega (arith, start1 (c .before .before .before) .pre .1)
 
 loop2-holds : tie.Need-loop2-holds Inv-loop μ-loop Inv-loop2 μ-loop2 Inv-loop3 μ-loop3 Inv-loop4 μ-loop4
 loop2-holds c =
-    let start = start1 (c .before .before) in
-    (omega arith, start-over (secondTurn (start .args .normal) (v1 (c .before .before) .position)) (nothing (float 0)) (rest start (js1 (c .before .before))))
+    let first = c .before .before .before in
+    let start = start1 first in
+    (omega arith, start-over (secondTurn (start .args .normal) (v1 first .position)) (nothing (float 0)) (rest start (js1 first)))
 
 standing1-requires : tie.Need-standing1-requires Inv-loop μ-loop Inv-loop2 μ-loop2 Inv-loop3 μ-loop3 Inv-loop4 μ-loop4
-standing1-requires c κs = omega (arith, start1 (c .before .before .before .before) .pre .1)
+standing1-requires c κs = omega (arith, start1 (c .before .before .before .before .before) .pre .1)
 
 mul-v-2 : tie.Need-mul-v-2 Inv-loop μ-loop Inv-loop2 μ-loop2 Inv-loop3 μ-loop3 Inv-loop4 μ-loop4
 mul-v-2 c = omega (arith, turn2-low c)
@@ -396,7 +447,7 @@ add-i2 : tie.Need-add-i2 Inv-loop μ-loop Inv-loop2 μ-loop2 Inv-loop3 μ-loop3 
 add-i2 c = omega (
   arith,
   c .before .before .before .before .loop2-test .taken,
-  start1 (c .before .before .before .before .before .before .before .before) .pre .0,
+  start1 (c .before .before .before .before .before .before .before .before .before) .pre .0,
 )
 
 loop2-less : tie.Need-loop2-less Inv-loop μ-loop Inv-loop2 μ-loop2 Inv-loop3 μ-loop3 Inv-loop4 μ-loop4
@@ -406,7 +457,7 @@ loop2-again : tie.Need-loop2-again Inv-loop μ-loop Inv-loop2 μ-loop2 Inv-loop3
 loop2-again c =
     let read = c .before .before .before in
     let l = read .before .before .loop2 in
-    let first = read .before .before .before .before .before in
+    let first = read .before .before .before .before .before .before in
     let start = start1 first in
     let a = start .args in (
       omega (arith, read .before .loop2-test .taken),
@@ -421,17 +472,18 @@ one-point-requires c κs = search needs
 
 returns-2 : tie.Need-returns-2 Inv-loop μ-loop Inv-loop2 μ-loop2 Inv-loop3 μ-loop3 Inv-loop4 μ-loop4
 returns-2 c =
-    let first = c .before .before .before .before .before .before .before in
+    let point = c .before .before .before .before .before .before in
+    let first = point .before .before in
     let a = start1 first .args in
     let best = c .before .before .before .before .loop2 .second in
     c .one-point .ensures
     ∙ ap (contactOf (a .normal))
-    (ap (λ (vs : List ClipVertex). v1 first ∷ vs) (no-second (a .normal) (v1 first) (rest (start1 first) (js1 first)) best
+    (ap₂ _∷_ (told1 point) (no-second (a .normal) (v1 first) (rest (start1 first) (js1 first)) (restPoints (start1 first) (js1 first)) best
     (second-is (c .before .before .before)) (ap (lt (best .score)) (sym folded) ∙ c .before .if2 .taken))
     ∙ one-taken first)
 
 standing1-requires-2 : tie.Need-standing1-requires-2 Inv-loop μ-loop Inv-loop2 μ-loop2 Inv-loop3 μ-loop3 Inv-loop4 μ-loop4
-standing1-requires-2 c κs = omega (arith, start1 (c .before .before .before .before .before .before) .pre .1)
+standing1-requires-2 c κs = omega (arith, start1 (c .before .before .before .before .before .before .before) .pre .1)
 
 mul-v2 : tie.Need-mul-v2 Inv-loop μ-loop Inv-loop2 μ-loop2 Inv-loop3 μ-loop3 Inv-loop4 μ-loop4
 mul-v2 c = omega (arith, two-low c, one-low (one c))
@@ -439,15 +491,21 @@ mul-v2 c = omega (arith, two-low c, one-low (one c))
 element-copy-out-v2 : tie.Need-element-copy-out-v2 Inv-loop μ-loop Inv-loop2 μ-loop2 Inv-loop3 μ-loop3 Inv-loop4 μ-loop4
 element-copy-out-v2 c = omega (arith, two-low c, one-low (one c))
 
+cast-point-of-2 : tie.Need-cast-point-of-2 Inv-loop μ-loop Inv-loop2 μ-loop2 Inv-loop3 μ-loop3 Inv-loop4 μ-loop4
+cast-point-of-2 c = omega (arith, two-low (c .before))
+
+point-of-requires-2 : tie.Need-point-of-requires-2 Inv-loop μ-loop Inv-loop2 μ-loop2 Inv-loop3 μ-loop3 Inv-loop4 μ-loop4
+point-of-requires-2 c κs = search needs
+
 sub-requires : tie.Need-sub-requires Inv-loop μ-loop Inv-loop2 μ-loop2 Inv-loop3 μ-loop3 Inv-loop4 μ-loop4
 sub-requires c κs = search needs
 
 sub-left3 : tie.Need-sub-left3 Inv-loop μ-loop Inv-loop2 μ-loop2 Inv-loop3 μ-loop3 Inv-loop4 μ-loop4
-sub-left3 c = omega (arith, start2 (c .before .before .before) .pre .1)
+sub-left3 c = omega (arith, start2 (c .before .before .before .before) .pre .1)
 
 loop3-holds : tie.Need-loop3-holds Inv-loop μ-loop Inv-loop2 μ-loop2 Inv-loop3 μ-loop3 Inv-loop4 μ-loop4
 loop3-holds c =
-    let second = c .before .before .before in
+    let second = c .before .before .before .before in
     let start = start2 second in (
       omega arith,
       ap nothing folded ∙ start-over (thirdTurn (start .args .normal) (v1 (one second) .position) (c .sub .result))
@@ -455,7 +513,7 @@ loop3-holds c =
     )
 
 standing2-requires : tie.Need-standing2-requires Inv-loop μ-loop Inv-loop2 μ-loop2 Inv-loop3 μ-loop3 Inv-loop4 μ-loop4
-standing2-requires c κs = omega (arith, start2 (c .before .before .before .before .before) .pre .1)
+standing2-requires c κs = omega (arith, start2 (c .before .before .before .before .before .before) .pre .1)
 
 mul-v-3 : tie.Need-mul-v-3 Inv-loop μ-loop Inv-loop2 μ-loop2 Inv-loop3 μ-loop3 Inv-loop4 μ-loop4
 mul-v-3 c = omega (arith, turn3-low c)
@@ -476,7 +534,7 @@ add-i3 : tie.Need-add-i3 Inv-loop μ-loop Inv-loop2 μ-loop2 Inv-loop3 μ-loop3 
 add-i3 c = omega (
   arith,
   c .before .before .before .before .before .loop3-test .taken,
-  start2 (c .before .before .before .before .before .before .before .before .before .before) .pre .0,
+  start2 (c .before .before .before .before .before .before .before .before .before .before .before) .pre .0,
 )
 
 loop3-less : tie.Need-loop3-less Inv-loop μ-loop Inv-loop2 μ-loop2 Inv-loop3 μ-loop3 Inv-loop4 μ-loop4
@@ -486,7 +544,7 @@ loop3-again : tie.Need-loop3-again Inv-loop μ-loop Inv-loop2 μ-loop2 Inv-loop3
 loop3-again c =
     let read = c .before .before .before .before in
     let l = read .before .before .loop3 in
-    let second = read .before .before .before .before .before .before in
+    let second = read .before .before .before .before .before .before .before in
     let start = start2 second in
     let a = start .args in
     let area : c .before .abs-float .result ≡ absOf (signedAreaOf (a .normal) (v1 (one second) .position) (read .before .before .before .sub .result)
@@ -507,17 +565,18 @@ two-points-requires c κs = search needs
 
 returns-3 : tie.Need-returns-3 Inv-loop μ-loop Inv-loop2 μ-loop2 Inv-loop3 μ-loop3 Inv-loop4 μ-loop4
 returns-3 c =
-    let second = c .before .before .before .before .before .before .before .before in
+    let point = c .before .before .before .before .before .before .before in
+    let second = point .before .before in
     let a = start2 second .args in
     c .two-points .ensures
     ∙ ap (contactOf (a .normal))
-    (ap (λ (vs : List ClipVertex). v1 (one second) ∷ v2 second ∷ vs) (no-third (a .normal) (v1 (one second)) (v2 second)
-    (rest (start2 second) (js2 second)) (c .before .before .before .before .loop3 .third) (third-is (c .before .before .before))
-    (not-true _ (c .before .if3 .taken)))
+    (ap₂ _∷_ (told1 (made1 second)) (ap₂ _∷_ (told2 point) (no-third (a .normal) (v1 (one second)) (v2 second) (rest (start2 second) (js2 second))
+    (restPoints (start2 second) (js2 second)) (c .before .before .before .before .loop3 .third) (third-is (c .before .before .before))
+    (not-true _ (c .before .if3 .taken))))
     ∙ two-taken second)
 
 standing2-requires-2 : tie.Need-standing2-requires-2 Inv-loop μ-loop Inv-loop2 μ-loop2 Inv-loop3 μ-loop3 Inv-loop4 μ-loop4
-standing2-requires-2 c κs = omega (arith, start2 (c .before .before .before .before .before .before .before) .pre .1)
+standing2-requires-2 c κs = omega (arith, start2 (c .before .before .before .before .before .before .before .before) .pre .1)
 
 mul-v3 : tie.Need-mul-v3 Inv-loop μ-loop Inv-loop2 μ-loop2 Inv-loop3 μ-loop3 Inv-loop4 μ-loop4
 mul-v3 c = omega (arith, three-low c, one-low (one (two c)))
@@ -525,20 +584,26 @@ mul-v3 c = omega (arith, three-low c, one-low (one (two c)))
 element-copy-out-v3 : tie.Need-element-copy-out-v3 Inv-loop μ-loop Inv-loop2 μ-loop2 Inv-loop3 μ-loop3 Inv-loop4 μ-loop4
 element-copy-out-v3 c = omega (arith, three-low c, one-low (one (two c)))
 
+cast-point-of-3 : tie.Need-cast-point-of-3 Inv-loop μ-loop Inv-loop2 μ-loop2 Inv-loop3 μ-loop3 Inv-loop4 μ-loop4
+cast-point-of-3 c = omega (arith, three-low (c .before))
+
+point-of-requires-3 : tie.Need-point-of-requires-3 Inv-loop μ-loop Inv-loop2 μ-loop2 Inv-loop3 μ-loop3 Inv-loop4 μ-loop4
+point-of-requires-3 c κs = search needs
+
 first-three-requires : tie.Need-first-three-requires Inv-loop μ-loop Inv-loop2 μ-loop2 Inv-loop3 μ-loop3 Inv-loop4 μ-loop4
 first-three-requires c κs = search needs
 
 sub-left4 : tie.Need-sub-left4 Inv-loop μ-loop Inv-loop2 μ-loop2 Inv-loop3 μ-loop3 Inv-loop4 μ-loop4
-sub-left4 c = omega (arith, start3 (c .before .before) .pre .1)
+sub-left4 c = omega (arith, start3 (c .before .before .before) .pre .1)
 
 loop4-holds : tie.Need-loop4-holds Inv-loop μ-loop Inv-loop2 μ-loop2 Inv-loop3 μ-loop3 Inv-loop4 μ-loop4
 loop4-holds c =
-    let third = c .before .before in
+    let third = c .before .before .before in
     let start = start3 third in
     (omega arith, ap nothing folded ∙ start-over (fourthTurn (start .args .normal) (c .first-three .result)) (nothing tolerance) (rest start (js3 third)))
 
 standing3-requires : tie.Need-standing3-requires Inv-loop μ-loop Inv-loop2 μ-loop2 Inv-loop3 μ-loop3 Inv-loop4 μ-loop4
-standing3-requires c κs = omega (arith, start3 (c .before .before .before .before) .pre .1)
+standing3-requires c κs = omega (arith, start3 (c .before .before .before .before .before) .pre .1)
 
 mul-v-4 : tie.Need-mul-v-4 Inv-loop μ-loop Inv-loop2 μ-loop2 Inv-loop3 μ-loop3 Inv-loop4 μ-loop4
 mul-v-4 c = omega (arith, turn4-low c)
@@ -556,7 +621,7 @@ add-i4 : tie.Need-add-i4 Inv-loop μ-loop Inv-loop2 μ-loop2 Inv-loop3 μ-loop3 
 add-i4 c = omega (
   arith,
   c .before .before .before .before .loop4-test .taken,
-  start3 (c .before .before .before .before .before .before .before .before) .pre .0,
+  start3 (c .before .before .before .before .before .before .before .before .before) .pre .0,
 )
 
 loop4-less : tie.Need-loop4-less Inv-loop μ-loop Inv-loop2 μ-loop2 Inv-loop3 μ-loop3 Inv-loop4 μ-loop4
@@ -566,7 +631,7 @@ loop4-again : tie.Need-loop4-again Inv-loop μ-loop Inv-loop2 μ-loop2 Inv-loop3
 loop4-again c =
     let read = c .before .before .before in
     let l = read .before .before .loop4 in
-    let third = read .before .before .before .before .before in
+    let third = read .before .before .before .before .before .before in
     let start = start3 third in
     let a = start .args in (
       omega (arith, read .before .loop4-test .taken),
@@ -581,36 +646,45 @@ three-points-requires c κs = search needs
 
 returns-4 : tie.Need-returns-4 Inv-loop μ-loop Inv-loop2 μ-loop2 Inv-loop3 μ-loop3 Inv-loop4 μ-loop4
 returns-4 c =
-    let third = c .before .before .before .before .before .before .before in
+    let point = c .before .before .before .before .before .before in
+    let third = point .before .before in
     let second = two third in
     let a = start3 third .args in
-    let made : c .three-points .result ≡ contactOf (a .normal) (v1 (one second) ∷ v2 second ∷ v3 third ∷ []) = c .three-points .ensures in
-    made
+    c .three-points .ensures
     ∙ ap (contactOf (a .normal))
-    (ap (λ (vs : List ClipVertex). v1 (one second) ∷ v2 second ∷ v3 third ∷ vs) (no-fourth (a .normal) (v1 (one second)) (v2 second) (v3 third)
-    (rest (start3 third) (js3 third)) (c .before .before .before .before .loop4 .fourth) (fourth-is (c .before .before .before))
-    (not-true _ (c .before .if4 .taken)))
+    (ap₂ _∷_ (told1 (made1 second)) (ap₂ _∷_ (told2 (made2 third)) (ap₂ _∷_ (told3 point)
+    (no-fourth (a .normal) (v1 (one second)) (v2 second) (v3 third) (rest (start3 third) (js3 third)) (restPoints (start3 third) (js3 third))
+    (c .before .before .before .before .loop4 .fourth) (fourth-is (c .before .before .before)) (not-true _ (c .before .if4 .taken)))))
     ∙ three-taken third)
 
 standing3-requires-2 : tie.Need-standing3-requires-2 Inv-loop μ-loop Inv-loop2 μ-loop2 Inv-loop3 μ-loop3 Inv-loop4 μ-loop4
-standing3-requires-2 c κs = omega (arith, start3 (c .before .before .before .before .before .before) .pre .1)
+standing3-requires-2 c κs = omega (arith, start3 (c .before .before .before .before .before .before .before) .pre .1)
 
-mul-four-points : tie.Need-mul-four-points Inv-loop μ-loop Inv-loop2 μ-loop2 Inv-loop3 μ-loop3 Inv-loop4 μ-loop4
-mul-four-points c = omega (arith, four-low c, one-low (one (two (three c))))
+mul-point-of : tie.Need-mul-point-of Inv-loop μ-loop Inv-loop2 μ-loop2 Inv-loop3 μ-loop3 Inv-loop4 μ-loop4
+mul-point-of c = omega (arith, four-low c, one-low (one (two (three c))))
 
-element-copy-out-four-points : tie.Need-element-copy-out-four-points Inv-loop μ-loop Inv-loop2 μ-loop2 Inv-loop3 μ-loop3 Inv-loop4 μ-loop4
-element-copy-out-four-points c = omega (arith, four-low c, one-low (one (two (three c))))
+element-copy-out-point-of : tie.Need-element-copy-out-point-of Inv-loop μ-loop Inv-loop2 μ-loop2 Inv-loop3 μ-loop3 Inv-loop4 μ-loop4
+element-copy-out-point-of c = omega (arith, four-low c, one-low (one (two (three c))))
+
+cast-point-of-4 : tie.Need-cast-point-of-4 Inv-loop μ-loop Inv-loop2 μ-loop2 Inv-loop3 μ-loop3 Inv-loop4 μ-loop4
+cast-point-of-4 c = omega (arith, four-low c)
+
+point-of-requires-4 : tie.Need-point-of-requires-4 Inv-loop μ-loop Inv-loop2 μ-loop2 Inv-loop3 μ-loop3 Inv-loop4 μ-loop4
+point-of-requires-4 c κs = search needs
 
 four-points-requires : tie.Need-four-points-requires Inv-loop μ-loop Inv-loop2 μ-loop2 Inv-loop3 μ-loop3 Inv-loop4 μ-loop4
 four-points-requires c κs = search needs
 
 returns-5 : tie.Need-returns-5 Inv-loop μ-loop Inv-loop2 μ-loop2 Inv-loop3 μ-loop3 Inv-loop4 μ-loop4
 returns-5 c =
-    let third = three (c .before .before) in
+    let four = c .before .before .before in
+    let third = three four in
     let start = start3 third in
-    let made : c .four-points .result ≡ contactOf (start .args .normal) (v1 (one (two third)) ∷ v2 (two third) ∷ v3 third
-    ∷ at start (c .before .before .standing32 .result) ∷ []) = c .four-points .ensures in
-    made ∙ ap (contactOf (start .args .normal)) (four-taken (c .before .before))
+    let told4 : c .before .point-of4 .result ≡ pointAt start (four .standing32 .result) = c .before .point-of4 .ensures in
+    c .four-points .ensures
+    ∙ ap (contactOf (start .args .normal))
+    (ap₂ _∷_ (told1 (made1 (two third))) (ap₂ _∷_ (told2 (made2 third)) (ap₂ _∷_ (told3 (made3 four)) (ap₂ _∷_ told4 refl)))
+    ∙ four-taken four)
 
 pub picked-spec : {M : Type 1} → statement M
 picked-spec =
@@ -635,6 +709,8 @@ picked-spec =
     returns
     mul-v1
     element-copy-out-v1
+    cast-point-of
+    point-of-requires
     sub-left2
     loop2-holds
     standing1-requires
@@ -650,6 +726,8 @@ picked-spec =
     standing1-requires-2
     mul-v2
     element-copy-out-v2
+    cast-point-of-2
+    point-of-requires-2
     sub-requires
     sub-left3
     loop3-holds
@@ -667,6 +745,8 @@ picked-spec =
     standing2-requires-2
     mul-v3
     element-copy-out-v3
+    cast-point-of-3
+    point-of-requires-3
     first-three-requires
     sub-left4
     loop4-holds
@@ -681,7 +761,9 @@ picked-spec =
     three-points-requires
     returns-4
     standing3-requires-2
-    mul-four-points
-    element-copy-out-four-points
+    cast-point-of-4
+    mul-point-of
+    element-copy-out-point-of
+    point-of-requires-4
     four-points-requires
     returns-5)

@@ -6,14 +6,15 @@ use lib.ListN.{length, length-map}
 use Rattle.manifold.specs.Polygons.{cornersOf}
 use Rattle.manifold.proofs.Polygons.{length-corners}
 use Rattle.reduce_points.specs.Points.{contactOf}
+use Rattle.reduce.specs.Reduce.{firstPicks}
 use Rattle.reduce.proofs.Picks.{all-kept, picks-kept}
 use Rattle.reduce.proofs.reduce_manifold_points.Statement.{statement}
 use Rattle.reduce.proofs.reduce_manifold_points.Tie as tie
 
-sized : (c : tie.Start) → length (cornersOf (c .args .points)) ≡ c .args .points .count
+sized : (c : tie.Start) → length (cornersOf (c .args .images)) ≡ c .args .images .count
 sized c =
-    let long : c .args .points .count ≤ length (c .args .points .vertices) = omega (arith, simp length-map at (c .good .0 .1 .1 .0 .1 .0 .1), c .pre) in
-    length-corners (c .args .points) long
+    let long : c .args .images .count ≤ length (c .args .images .vertices) = omega (arith, simp length-map at (c .good .0 .1 .1 .0 .1 .0 .1), c .pre) in
+    length-corners (c .args .images) long
 
 all-points-requires : tie.Need-all-points-requires
 all-points-requires c κs = c .if1 .taken
@@ -22,7 +23,7 @@ returns : tie.Need-returns
 returns c =
     let start = c .before .before .before in
     let a = start .args in
-    c .all-points .ensures ∙ ap (contactOf (a .normal)) (all-kept (a .direction) (a .normal) (cornersOf (a .points))
+    c .all-points .ensures ∙ ap (contactOf (a .normal)) (all-kept (firstPicks (a .direction) (a .normal) (cornersOf (a .images))) (cornersOf (a .images))
     (omega (arith, sized start, c .before .if1 .taken)))
 
 picked-requires : tie.Need-picked-requires
@@ -32,7 +33,7 @@ returns-2 : tie.Need-returns-2
 returns-2 c =
     let start = c .before .before .before in
     let a = start .args in
-    c .picked .ensures ∙ ap (contactOf (a .normal)) (picks-kept (a .direction) (a .normal) (cornersOf (a .points))
+    c .picked .ensures ∙ ap (contactOf (a .normal)) (picks-kept (firstPicks (a .direction) (a .normal) (cornersOf (a .images))) (cornersOf (a .images))
     (omega (arith, sized start, c .before .if1 .left)))
 
 pub reduce-manifold-points-spec : {M : Type 1} → statement M

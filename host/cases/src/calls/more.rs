@@ -4,13 +4,14 @@ use super::Work;
 use crate::inputs::rounded;
 use crate::pairs::{self, placed, spin, Pair};
 use crate::shapes::kinds::COMPACT;
-use crate::shapes::solids::{block, frame, pyramid};
+use crate::shapes::solids::{bands, block, frame, pyramid, tipped};
 use crate::shapes::Shape;
 use crate::sorts::places::{any_edges, anyhow, edge_on_edge, Spin};
 use crate::sorts::{padded, Sort};
 use crate::{convert, Numbers, SLOP};
 use oracle::math_functions::*;
 use std::cmp::Ordering;
+use std::f32::consts::FRAC_PI_2;
 
 /// Beside those that the searches go through.
 pub const MORE: [Sort; 6] = [
@@ -27,6 +28,67 @@ pub const MORE: [Sort; 6] = [
     ("normals with tiny parts", tiny_parts),
     ("an edge pair above the face by the slop", level),
 ];
+
+/// A sort for the places of candidates.
+pub const BANDS: Sort = ("bands round a corner, a face that is not convex", banded);
+
+/// A block, and on its top a hull whose base is two to four bands round the top's corner, so that as many candidates carry one
+/// tag, often at one position. The block may be A or B. Some faces of the other hull look inward and keep the two apart; where
+/// its planes lie far out, they do not, and the block's top is the best face.
+fn banded(n: &mut Numbers) -> Pair {
+    let half = [1.0, n.between(0.3, 2.0)][n.below(2)];
+    let count = 2 * (2 + n.below(3));
+    // In the middle of each step the distances to the corner are often whole parts of it.
+    let even = n.below(2) == 0;
+    let ways: Vec<[f64; 3]> = (0..count)
+        .map(|way| {
+            let mut inward = || {
+                let part = if even { 0.5 } else { n.between(0.1, 0.9) };
+                (way as f64 + part) / count as f64
+            };
+            [inward(), 2.0 - inward(), 2.0 - inward()].map(|x| half * x)
+        })
+        .collect();
+    let block = Shape::any(&block([half, half, 0.5]), n);
+    let solid = tipped(&bands(-half, &ways), n.between(0.3, 1.0));
+    let mut round = Shape::any(&solid, n);
+    let out = [0.0, 4.0, 4.0][n.below(3)];
+    for face in 0..round.size.faces {
+        let offset = round.plane(face) + 3;
+        round.numbers[offset] += out;
+    }
+    let quarter = FRAC_PI_2 * n.below(4) as f32;
+    let angle = [0.0, quarter, quarter + 0.05 * n.fraction()][n.below(3)];
+    let mut aside = || [0.0, 0.0, 0.05 * n.fraction()][n.below(3)];
+    let (x, y) = (aside(), aside());
+    let z = 0.5 + [0.0, -0.001, 0.01 * n.fraction()][n.below(3)];
+    on_block(block, round, Vec3 { x, y, z }, angle, n)
+}
+
+/// The block as A and the other on it, moved and turned about z, or the other way round.
+fn on_block(block: Shape, other: Shape, p: Vec3, angle: f32, n: &mut Numbers) -> Pair {
+    let axis = Vec3 {
+        x: 0.0,
+        y: 0.0,
+        z: 1.0,
+    };
+    let transform = Transform {
+        p,
+        q: spin(axis, angle),
+    };
+    if n.below(2) == 0 {
+        return Pair {
+            a: block,
+            b: other,
+            transform,
+        };
+    }
+    Pair {
+        a: other,
+        b: block,
+        transform: invert_transform(transform),
+    }
+}
 
 /// Two blocks side by side and turned together: which of their corners lies lowest is left to rounding.
 fn two_level(n: &mut Numbers) -> Shape {
@@ -48,30 +110,13 @@ fn over_an_edge(n: &mut Numbers) -> Pair {
     }
     let shift = [0.0, 0.003, 0.02, 0.05 * n.fraction()][n.below(4)];
     let deep = [0.0, 0.001, 0.01, 0.02 * n.fraction()][n.below(4)];
-    let axis = Vec3 {
-        x: 0.0,
-        y: 0.0,
-        z: 1.0,
-    };
-    let q = spin(axis, [0.0, 0.01 * n.fraction()][n.below(2)]);
+    let angle = [0.0, 0.01 * n.fraction()][n.below(2)];
     let p = Vec3 {
         x: shift,
         y: 0.0,
         z: 1.0 - deep,
     };
-    let transform = Transform { p, q };
-    if n.below(2) == 0 {
-        return Pair {
-            a: top,
-            b: round,
-            transform,
-        };
-    }
-    Pair {
-        a: round,
-        b: top,
-        transform: invert_transform(transform),
-    }
+    on_block(top, round, p, angle, n)
 }
 
 /// Blocks not turned, whose normals have parts so small that a product of two of them is zero.

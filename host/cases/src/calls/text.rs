@@ -1,23 +1,34 @@
 //! The work by the Rust text.
 
-use super::{empty, Answer, Call};
+use super::{empty, same_answers, Answer, Call};
 use crate::convert;
 use crate::pairs::Pair;
 use oracle::hull::HullData;
 use oracle::math_functions::Transform;
-use oracle::open::{self, collide_hulls, search, AxisQuery, LocalManifold, SeparatingFeature};
+use oracle::open::{
+    self, collide_hulls, collide_hulls_placed, search, AxisQuery, LocalManifold, SeparatingFeature,
+};
 use oracle::quiet;
-use oracle::transcribed::{again, Again, End};
+use oracle::transcribed::{self, again, Again, End};
 use records::{Contact, Outcome, SatCache, MAX_MANIFOLD_POINTS};
 
 /// The bits of a NaN that a call works out.
 const NAN: u32 = 0x7fc0_0000;
+
+/// The text's `collide_hulls`, or that of the copy in which a candidate carries its place.
+type Collide = fn(&mut LocalManifold, i32, &HullData, &HullData, Transform, &mut open::SatCache);
 
 impl Call<'_> {
     /// What document 01 says, the work done by the text.
     pub fn wanted(&self) -> Answer {
         self.without_work()
             .unwrap_or_else(|| Work::of_call(self).answer(self.capacity, self.cache))
+    }
+
+    /// The same with the work done once, by the copy alone: for what is timed.
+    pub fn wanted_once(&self) -> Answer {
+        self.without_work()
+            .unwrap_or_else(|| Work::of_call(self).answer_of_copy(self.capacity, self.cache))
     }
 }
 
@@ -45,14 +56,35 @@ impl Work {
         }
     }
 
-    /// The text's answer to a cache whose numbers are in range, with a capacity of 4 or more. The text still has the types
-    /// that are retired; "such a cache now acts as type 0" (document 02, j), and so it is handed to the text.
+    /// The text's answer to a cache whose numbers are in range, with a capacity of 4 or more. Its places alone are those of
+    /// the copy in which a candidate carries its place: panics where the two differ in anything else.
     pub fn answer(&self, capacity: i32, cache: SatCache) -> Answer {
+        let mut answer = self.answer_of(collide_hulls, capacity, cache);
+        let placed = self.answer_of_copy(capacity, cache);
+        let (points, others) = (
+            &mut answer.outcome.contact.points,
+            &placed.outcome.contact.points,
+        );
+        for (point, other) in points.iter_mut().zip(others) {
+            point.place = other.place;
+        }
+        assert!(same_answers(&answer, &placed), "{answer:?}, {placed:?}");
+        answer
+    }
+
+    /// The same by the copy alone.
+    pub fn answer_of_copy(&self, capacity: i32, cache: SatCache) -> Answer {
+        self.answer_of(collide_hulls_placed, capacity, cache)
+    }
+
+    /// The text still has the types that are retired; "such a cache now acts as type 0" (document 02, j), and so it is handed
+    /// to the text.
+    fn answer_of(&self, collide: Collide, capacity: i32, cache: SatCache) -> Answer {
         let mut read = cache;
         if cache.has_retired_type() {
             read.kind = 0;
         }
-        match self.collided(capacity, convert::cache(read)) {
+        match self.collided(collide, capacity, convert::cache(read)) {
             Some((manifold, next)) => accepted(&manifold, cache, next),
             None => empty(self.panicked(read), cache),
         }
@@ -61,15 +93,22 @@ impl Work {
     /// What the text's call makes, and the next cache; none where it panics.
     fn collided(
         &self,
+        collide: Collide,
         capacity: i32,
         mut cache: open::SatCache,
     ) -> Option<(LocalManifold, open::SatCache)> {
         quiet(move || {
             let mut manifold = LocalManifold::default();
             let (a, b) = (&self.a, &self.b);
-            collide_hulls(&mut manifold, capacity, a, b, self.transform, &mut cache);
+            collide(&mut manifold, capacity, a, b, self.transform, &mut cache);
             (manifold, cache)
         })
+    }
+
+    /// The candidates of the contact that left this cache, as they stood before any pick.
+    pub fn candidates(&self, next: SatCache) -> Vec<open::ClipVertex> {
+        let next = convert::cache(next);
+        transcribed::candidates(&self.a, &self.b, self.transform, &next)
     }
 
     /// The separation of the contact on the face that wins, where it touches: what stands before a pair of edges is tried.
@@ -84,7 +123,8 @@ impl Work {
             type_: door as u8,
             ..open::SatCache::default()
         };
-        let (manifold, next) = self.collided(MAX_MANIFOLD_POINTS as i32, cache)?;
+        let capacity = MAX_MANIFOLD_POINTS as i32;
+        let (manifold, next) = self.collided(collide_hulls, capacity, cache)?;
         (manifold.point_count > 0).then_some(next.separation)
     }
 
@@ -135,9 +175,10 @@ fn a_wins(query: &AxisQuery) -> bool {
     query.face_a.separation > query.face_b.separation
 }
 
-/// What the text made of the cache, with document 01's two rules added: what is not filled is zero, and a NaN that was
-/// worked out has fixed bits. The text leaves the separation where there is a hit. The mark is document 02's (j): "set only
-/// on accepted calls with capacity 4 or more".
+/// What the text or its copy made of the cache, with document 01's two rules added: what is not filled is zero, and a NaN that
+/// was worked out has fixed bits. The text leaves the separation where there is a hit. The mark is document 02's (j): "set only
+/// on accepted calls with capacity 4 or more"; so are the places that no candidate has (d): "An edge point has place 0; unused
+/// places 255".
 fn accepted(manifold: &LocalManifold, cache: SatCache, next: open::SatCache) -> Answer {
     let mut contact = Contact::EMPTY;
     let made = &manifold.points[..manifold.point_count as usize];
@@ -145,8 +186,11 @@ fn accepted(manifold: &LocalManifold, cache: SatCache, next: open::SatCache) -> 
         contact.normal = convert::ours(manifold.normal);
         contact.count = made.len() as u8;
     }
-    for (place, point) in contact.points.iter_mut().zip(made) {
-        *place = convert::our_contact_point(point);
+    for (point, made) in contact.points.iter_mut().zip(made) {
+        *point = convert::our_contact_point(made);
+        if next.type_ == SeparatingFeature::EdgePairAxis as u8 {
+            point.place = 0;
+        }
     }
     let bits = next.separation.to_bits();
     let nan = bits & 0x7fff_ffff > 0x7f80_0000;

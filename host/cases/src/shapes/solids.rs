@@ -31,6 +31,18 @@ pub fn block(half: [f64; 3]) -> Solid {
     }
 }
 
+/// A square of half-size 1 without its corners.
+pub const OCTAGON: [[f64; 2]; 8] = [
+    [-0.5, -1.0],
+    [0.5, -1.0],
+    [1.0, -0.5],
+    [1.0, 0.5],
+    [0.5, 1.0],
+    [-0.5, 1.0],
+    [-1.0, 0.5],
+    [-1.0, -0.5],
+];
+
 /// A regular polygon, counterclockwise.
 pub fn polygon(sides: usize, radius: f64) -> Vec<[f64; 2]> {
     (0..sides)
@@ -54,7 +66,14 @@ pub fn frustum(base: &[[f64; 2]], taper: f64, height: f64) -> Solid {
 
 /// V n + 1, H 4n, F n + 1.
 pub fn pyramid(sides: usize, radius: f64, height: f64) -> Solid {
-    let mut corners = raised(&polygon(sides, radius), 0.0);
+    tipped(&polygon(sides, radius), height)
+}
+
+/// A base in the plane z = 0, counterclockwise seen from above, and a tip over the origin. Where the base is not convex, the
+/// solid is not either.
+pub fn tipped(base: &[[f64; 2]], height: f64) -> Solid {
+    let sides = base.len();
+    let mut corners = raised(base, 0.0);
     corners.push([0.0, 0.0, height]);
     let mut faces = vec![(0..sides).rev().collect()];
     faces.extend((0..sides).map(|i| vec![i, (i + 1) % sides, sides]));
@@ -130,6 +149,22 @@ pub fn two_sided(sides: usize, radius: f64) -> Solid {
         corners: raised(&polygon(sides, radius), 0.0),
         faces: vec![(0..sides).collect(), (0..sides).rev().collect()],
     }
+}
+
+/// The outline of bands round a corner, one inside the other, joined where x is between `left` and 0. A band has an outer way
+/// round and an inner one, which goes back; a way is its y below, its x on the right and its y above. The ways go inward.
+pub fn bands(left: f64, ways: &[[f64; 3]]) -> Vec<[f64; 2]> {
+    let mut outline = Vec::new();
+    for (number, &[below, right, above]) in ways.iter().enumerate() {
+        let end = number == 0 || number + 1 == ways.len();
+        let start = if end { left } else { 0.0 };
+        let mut way = [[start, below], [right, below], [right, above], [0.0, above]];
+        if number % 2 == 1 {
+            way.reverse();
+        }
+        outline.extend(way);
+    }
+    outline
 }
 
 fn raised(base: &[[f64; 2]], height: f64) -> Vec<[f64; 3]> {

@@ -8,7 +8,7 @@ use std::io::{self, BufRead, Write};
 
 fn main() -> io::Result<()> {
     let answers = match std::env::args().nth(1) {
-        None => faults::right,
+        None => faults::right_once,
         Some(name) => faults::named(&name).expect("there is such a fault"),
     };
     let mut from = io::stdin().lock();

@@ -64,19 +64,29 @@ pub fn again(
     }
 }
 
+/// The vertex of B that reaches deepest below this face of A, and how far it lies above the face's plane.
+pub(super) fn support_of_face_a(
+    hull_a: &HullData,
+    hull_b: &HullData,
+    transform_b_to_a: Transform,
+    face: u8,
+) -> (i32, f32) {
+    let plane = get_hull_planes(hull_a)[face as usize];
+    let search_direction_in_b = neg(inv_rotate_vector(transform_b_to_a.q, plane.normal));
+    let vertex_index = find_hull_support_vertex(hull_b, search_direction_in_b);
+    let points_b = get_hull_points(hull_b);
+    let support = transform_point(transform_b_to_a, points_b[vertex_index as usize]);
+    (vertex_index, plane_separation(plane, support))
+}
+
 fn face_a(
     hull_a: &HullData,
     hull_b: &HullData,
     transform_b_to_a: Transform,
     cache: &SatCache,
 ) -> Again {
-    let plane = get_hull_planes(hull_a)[cache.index_a as usize];
-    let search_direction_in_b = neg(inv_rotate_vector(transform_b_to_a.q, plane.normal));
-    let vertex_index = find_hull_support_vertex(hull_b, search_direction_in_b);
-    let points_b = get_hull_points(hull_b);
-    let support = transform_point(transform_b_to_a, points_b[vertex_index as usize]);
-    let separation = plane_separation(plane, support);
-
+    let (vertex_index, separation) =
+        support_of_face_a(hull_a, hull_b, transform_b_to_a, cache.index_a);
     let face = cache.index_a as i32;
     face_again(separation, || {
         let mut cuts = FaceCuts::<64>::default();
@@ -85,19 +95,29 @@ fn face_a(
     })
 }
 
+/// The vertex of A that reaches deepest below this face of B, and how far it lies above the face's plane.
+pub(super) fn support_of_face_b(
+    hull_a: &HullData,
+    hull_b: &HullData,
+    transform_b_to_a: Transform,
+    face: u8,
+) -> (i32, f32) {
+    let plane = get_hull_planes(hull_b)[face as usize];
+    let search_direction_in_a = neg(rotate_vector(transform_b_to_a.q, plane.normal));
+    let vertex_index = find_hull_support_vertex(hull_a, search_direction_in_a);
+    let points_a = get_hull_points(hull_a);
+    let support = inv_transform_point(transform_b_to_a, points_a[vertex_index as usize]);
+    (vertex_index, plane_separation(plane, support))
+}
+
 fn face_b(
     hull_a: &HullData,
     hull_b: &HullData,
     transform_b_to_a: Transform,
     cache: &SatCache,
 ) -> Again {
-    let plane = get_hull_planes(hull_b)[cache.index_b as usize];
-    let search_direction_in_a = neg(rotate_vector(transform_b_to_a.q, plane.normal));
-    let vertex_index = find_hull_support_vertex(hull_a, search_direction_in_a);
-    let points_a = get_hull_points(hull_a);
-    let support = inv_transform_point(transform_b_to_a, points_a[vertex_index as usize]);
-    let separation = plane_separation(plane, support);
-
+    let (vertex_index, separation) =
+        support_of_face_b(hull_a, hull_b, transform_b_to_a, cache.index_b);
     let face = cache.index_b as i32;
     let transform_a_to_b = invert_transform(transform_b_to_a);
     face_again(separation, || {

@@ -1,4 +1,4 @@
--- `carried`: each place by its own call; no point, and nothing is carried.
+-- `carried`: each point by its own call; no point, and nothing is carried.
 use mathlib.Core.Path.{_≡_}
 use mathlib.Core.Bool.{true, false}
 use lib.Dec.{eqb}
@@ -22,29 +22,29 @@ mul-mv-requires c κs = search needs
 neg-requires : tie.Need-neg-requires
 neg-requires c κs = search needs
 
-element-copy-out-carried-place : tie.Need-element-copy-out-carried-place
-element-copy-out-carried-place c = search needs
+element-copy-out-carried-if-used : tie.Need-element-copy-out-carried-if-used
+element-copy-out-carried-if-used c = search needs
 
-carried-place-requires : tie.Need-carried-place-requires
-carried-place-requires c κs = search needs
+carried-if-used-requires : tie.Need-carried-if-used-requires
+carried-if-used-requires c κs = search needs
 
-element-copy-out-carried-place-2 : tie.Need-element-copy-out-carried-place-2
-element-copy-out-carried-place-2 c = search needs
+element-copy-out-carried-if-used-2 : tie.Need-element-copy-out-carried-if-used-2
+element-copy-out-carried-if-used-2 c = search needs
 
-carried-place-requires-2 : tie.Need-carried-place-requires-2
-carried-place-requires-2 c κs = search needs
+carried-if-used-requires-2 : tie.Need-carried-if-used-requires-2
+carried-if-used-requires-2 c κs = search needs
 
-element-copy-out-carried-place-3 : tie.Need-element-copy-out-carried-place-3
-element-copy-out-carried-place-3 c = search needs
+element-copy-out-carried-if-used-3 : tie.Need-element-copy-out-carried-if-used-3
+element-copy-out-carried-if-used-3 c = search needs
 
-carried-place-requires-3 : tie.Need-carried-place-requires-3
-carried-place-requires-3 c κs = search needs
+carried-if-used-requires-3 : tie.Need-carried-if-used-requires-3
+carried-if-used-requires-3 c κs = search needs
 
-element-copy-out-carried-place-4 : tie.Need-element-copy-out-carried-place-4
-element-copy-out-carried-place-4 c = search needs
+element-copy-out-carried-if-used-4 : tie.Need-element-copy-out-carried-if-used-4
+element-copy-out-carried-if-used-4 c = search needs
 
-carried-place-requires-4 : tie.Need-carried-place-requires-4
-carried-place-requires-4 c κs = search needs
+carried-if-used-requires-4 : tie.Need-carried-if-used-requires-4
+carried-if-used-requires-4 c κs = search needs
 
 returns-2 : tie.Need-returns-2
 unfolding carriedContact
@@ -53,10 +53,10 @@ returns-2 c = let some : eqb (c .before .before .before .before .before .before 
     (c .before .before .before .before .before .before .before .before .before .before .before .before .before .if1 .left) in
     simp (
       some,
-      c .carried-place4 .ensures,
-      c .before .before .carried-place3 .ensures,
-      c .before .before .before .before .carried-place2 .ensures,
-      c .before .before .before .before .before .before .carried-place .ensures,
+      c .carried-if-used4 .ensures,
+      c .before .before .carried-if-used3 .ensures,
+      c .before .before .before .before .carried-if-used2 .ensures,
+      c .before .before .before .before .before .before .carried-if-used .ensures,
       c .before .before .before .before .before .before .before .before .neg .ensures,
       c .before .before .before .before .before .before .before .before .before .mul-mv .ensures,
       c .before .before .before .before .before .before .before .before .before .before .before .before .make-matrix-from-quat .ensures,
@@ -70,12 +70,12 @@ carried-spec =
     make-matrix-from-quat-requires
     mul-mv-requires
     neg-requires
-    element-copy-out-carried-place
-    carried-place-requires
-    element-copy-out-carried-place-2
-    carried-place-requires-2
-    element-copy-out-carried-place-3
-    carried-place-requires-3
-    element-copy-out-carried-place-4
-    carried-place-requires-4
+    element-copy-out-carried-if-used
+    carried-if-used-requires
+    element-copy-out-carried-if-used-2
+    carried-if-used-requires-2
+    element-copy-out-carried-if-used-3
+    carried-if-used-requires-3
+    element-copy-out-carried-if-used-4
+    carried-if-used-requires-4
     returns-2)

@@ -36,6 +36,9 @@ mul-sv-requires c κs = search needs
 make-feature-pair-requires : tie.Need-make-feature-pair-requires
 make-feature-pair-requires c κs = search needs
 
+point-of-requires : tie.Need-point-of-requires
+point-of-requires c κs = search needs
+
 one-point-requires : tie.Need-one-point-requires
 one-point-requires c κs = search needs
 
@@ -44,18 +47,20 @@ touched-requires c κs = search needs
 
 returns-2 : tie.Need-returns-2
 unfolding edgePoint alongOf
-returns-2 c = let w = c .before .before .before .before .before .before .before .before in
-    let within : isWithinSegmentsOf (c .before .before .before .before .before .before .before .before .before .args .nearest) ≡ true =
-    sym (w .is-within-segments .ensures) ∙ not-false _ (c .before .before .before .before .before .before .before .if1 .left) in
+returns-2 c = let tagged = c .before .before .before in
+    let w = tagged .before .before .before .before .before .before in
+    let within : isWithinSegmentsOf (w .before .args .nearest) ≡ true =
+    sym (w .is-within-segments .ensures) ∙ not-false _ (tagged .before .before .before .before .before .if1 .left) in
     simp (
       within,
       c .touched .ensures,
       c .before .one-point .ensures,
-      c .before .before .make-feature-pair .ensures,
-      c .before .before .before .mul-sv .ensures,
-      c .before .before .before .before .add .ensures,
-      c .before .before .before .before .before .dot .ensures,
-      c .before .before .before .before .before .before .sub .ensures,
+      c .before .before .point-of .ensures,
+      tagged .make-feature-pair .ensures,
+      tagged .before .mul-sv .ensures,
+      tagged .before .before .add .ensures,
+      tagged .before .before .before .dot .ensures,
+      tagged .before .before .before .before .sub .ensures,
     )
 
 pub along-spec : {M : Type 1} → statement M
@@ -70,6 +75,7 @@ along-spec =
     add-requires
     mul-sv-requires
     make-feature-pair-requires
+    point-of-requires
     one-point-requires
     touched-requires
     returns-2)

@@ -3,11 +3,11 @@ use borrow.Author.Needs.{needs}
 use Rattle.manifold.proofs.records.empty_contact.Statement.{statement}
 use Rattle.manifold.proofs.records.empty_contact.Tie as tie
 
-zero-point-requires : tie.Need-zero-point-requires
-zero-point-requires c κs = search needs
+unused-point-requires : tie.Need-unused-point-requires
+unused-point-requires c κs = search needs
 
 returns : tie.Need-returns
-returns c = simp (c .zero-point .ensures)
+returns c = simp (c .unused-point .ensures)
 
 pub empty-contact-spec : {M : Type 1} → statement M
-empty-contact-spec = tie.close (tie.spec zero-point-requires returns)
+empty-contact-spec = tie.close (tie.spec unused-point-requires returns)

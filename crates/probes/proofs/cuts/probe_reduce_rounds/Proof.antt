@@ -5,18 +5,18 @@ use native.Mathlib.Omega.{arith}
 use Rattle.manifold.specs.declared.Contact.{Contact}
 use Rattle.manifold.specs.Polygons.{cornersOf}
 use Rattle.reduce_points.specs.Points.{contactOf}
-use Rattle.reduce.specs.Reduce.{pointsOf}
+use Rattle.reduce.specs.Reduce.{firstPicks, pointsOf}
 use Rattle.probes.proofs.Rounds.{Summed, none-summed, one-more, all-summed, four-most}
 use borrow.Author.Needs.{needs}
 use Rattle.probes.proofs.cuts.probe_reduce_rounds.Statement.{statement}
 use Rattle.probes.proofs.cuts.probe_reduce_rounds.Tie as tie
 
 abbrev Inv-loop : tie.InvT-loop
-Inv-loop points normal direction rounds total₀ i₀ total i =
-    (i ≤ rounds) × Summed (contactOf normal (pointsOf direction normal (cornersOf points)) .count) total i
+Inv-loop images normal direction rounds total₀ i₀ total i =
+    (i ≤ rounds) × Summed (contactOf normal (pointsOf (firstPicks direction normal (cornersOf images)) (cornersOf images)) .count) total i
 
 abbrev μ-loop : tie.MeasureT-loop
-μ-loop points normal direction rounds total₀ i₀ total i = rounds - i
+μ-loop images normal direction rounds total₀ i₀ total i = rounds - i
 
 loop-holds : tie.Need-loop-holds Inv-loop μ-loop
 loop-holds c = (omega arith, none-summed _)

@@ -38,7 +38,8 @@ fn both(settled: &Settled, what: &str, most: usize, steps: &[&Step]) {
             time
         },
         || {
-            let plain = |frame: &Vec<u8>| wanted::to_frame(frame).map_or(0, |bytes| bytes.len());
+            let plain =
+                |frame: &Vec<u8>| wanted::to_frame_once(frame).map_or(0, |bytes| bytes.len());
             timed_calls(frames.len(), &frames, plain).0
         },
     );

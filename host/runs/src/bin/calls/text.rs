@@ -1,11 +1,12 @@
 //! What is held to the Rust text itself.
 
 use crate::retired::Retired;
-use cases::calls::more::{tiny_parts, MORE};
+use cases::calls::more::{tiny_parts, BANDS, MORE};
+use cases::calls::placed::Placed;
 use cases::calls::series::Series;
 use cases::calls::{same_answers, Answer, Call};
 use cases::sorts::{acceptable, SORTS};
-use cases::{Numbers, Tally};
+use cases::{one_in, Numbers, Tally};
 use met::Met;
 use records::SatCache;
 use runs::ours;
@@ -16,9 +17,10 @@ pub fn run(n: &mut Numbers, count: usize, retired: &mut Retired) -> bool {
     let mut good = true;
     let mut all = All {
         met: Met::default(),
+        placed: Placed::default(),
         retired,
     };
-    for (name, make) in SORTS.into_iter().chain(MORE) {
+    for (name, make) in SORTS.into_iter().chain(MORE).chain([BANDS]) {
         let mut t = Tally::default();
         for _ in 0..count {
             let pair = acceptable(make, n);
@@ -46,12 +48,13 @@ pub fn run(n: &mut Numbers, count: usize, retired: &mut Retired) -> bool {
         Series::new(pair, &mut |call| all.held(&mut t, call)).every_pair_of_edges(n);
     }
     good &= t.report("calls, every pair of edges, normals with tiny parts");
-    good & all.met.report(count)
+    good & all.met.report(count) & all.placed.report(one_in(2, count))
 }
 
 /// All that was met.
 struct All<'a> {
     met: Met,
+    placed: Placed,
     retired: &'a mut Retired,
 }
 
@@ -63,6 +66,7 @@ impl All<'_> {
             format!("ours {ours:?}, wanted {wanted:?}: {call:?}")
         });
         self.met.add(call, &wanted);
+        self.placed.add(call, &wanted);
         self.retired.add(call, &wanted);
         wanted
     }

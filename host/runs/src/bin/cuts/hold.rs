@@ -1,5 +1,6 @@
-//! Answers held to lists of corners, place by place.
+//! Answers held to lists of corners and of points, one by one.
 
+use cases::calls::same_points;
 use cases::same;
 use probes::{ClipVertex, Contact, Point, Polygon, Vec3};
 
@@ -20,35 +21,40 @@ fn zero(v: &ClipVertex) -> bool {
     bits(v.position) == [0; 3] && v.separation.to_bits() == 0 && pair == [0; 4]
 }
 
-/// Whether these places are the list and zeros after it.
-fn places_are(places: &[ClipVertex], list: &[ClipVertex]) -> bool {
-    list.len() <= places.len()
-        && places.iter().zip(list).all(|(a, b)| same_corner(a, b))
-        && places[list.len()..].iter().all(zero)
-}
-
-/// Whether the polygon is this list and nothing else.
+/// Whether the polygon is this list, zeros after it and nothing else.
 pub fn polygon_is(polygon: &Polygon, list: &[ClipVertex]) -> bool {
-    polygon.count == list.len() && places_are(&polygon.vertices, list)
+    polygon.count == list.len()
+        && list.len() <= polygon.vertices.len()
+        && polygon
+            .vertices
+            .iter()
+            .zip(list)
+            .all(|(a, b)| same_corner(a, b))
+        && polygon.vertices[list.len()..].iter().all(zero)
 }
 
-/// Whether the contact has these points and this normal, which is zero where there are none, and nothing else.
-pub fn contact_is(contact: &Contact, normal: Vec3, list: &[ClipVertex]) -> bool {
+/// Whether the contact has these points, places and all, and this normal, which is zero where there are none, and nothing
+/// else.
+pub fn contact_is(contact: &Contact, normal: Vec3, list: &[Point]) -> bool {
     let normal_is = if list.is_empty() {
         bits(contact.normal) == [0; 3]
     } else {
         same_vector(contact.normal, normal)
     };
+    let unused = std::iter::repeat(&Point::UNUSED);
     normal_is
         && usize::from(contact.count) == list.len()
-        && places_are(&contact.points.map(corner), list)
+        && list.len() <= contact.points.len()
+        && (contact.points.iter().zip(list.iter().chain(unused))).all(|(a, b)| same_points(a, b))
 }
 
-/// A point as the candidate that it was.
-fn corner(point: Point) -> ClipVertex {
-    ClipVertex {
-        position: point.position,
-        separation: point.separation,
-        pair: point.pair,
-    }
+/// The candidate at this place as the point that comes of it.
+pub fn point_of(list: &[ClipVertex], place: u8) -> Option<Point> {
+    let candidate = list.get(usize::from(place))?;
+    Some(Point {
+        position: candidate.position,
+        separation: candidate.separation,
+        pair: candidate.pair,
+        place,
+    })
 }

@@ -1,4 +1,5 @@
-//! Lists of candidates for the picks, each candidate with its own place in the list as its first owner.
+//! Lists of candidates for the picks, some of them with twins: candidates with one tag at one position, which only their
+//! places tell apart.
 
 use cases::inputs::{rounded, vector};
 use cases::shapes::solids::frame;
@@ -23,22 +24,18 @@ pub fn any(n: &mut Numbers) -> (Vec3, Vec<ClipVertex>) {
         2 => n.below(65),
         _ => 60 + n.below(5),
     };
-    let flat = flat_places(size, n);
+    let flat = flat_positions(size, n);
     let rough = [0.0, 0.0, 0.01, 1.0][n.below(4)];
     let mut list: Vec<ClipVertex> = flat
         .into_iter()
         .zip(separations(size, n))
-        .enumerate()
-        .map(|(place, ([x, y], separation))| {
+        .map(|([x, y], separation)| {
             let z = rough * n.between(-1.0, 1.0);
             let position = [0, 1, 2].map(|axis| x * u[axis] + y * v[axis] + z * w[axis]);
             ClipVertex {
                 position: rounded(position),
                 separation,
-                pair: FeaturePair {
-                    owner1: place as u8,
-                    ..pair(n)
-                },
+                pair: pair(n),
             }
         })
         .collect();
@@ -49,12 +46,17 @@ pub fn any(n: &mut Numbers) -> (Vec3, Vec<ClipVertex>) {
             }
         }
     }
+    if size > 1 && n.below(4) == 0 {
+        for _ in 0..1 + n.below(size) {
+            list[n.below(size)] = list[n.below(size)];
+        }
+    }
     (normal, list)
 }
 
-/// Places in a plane: anywhere, round a circle, on a line and nearly, at one place, two at each, on a grid, in a
+/// Positions in a plane: anywhere, round a circle, on a line and nearly, all at one, two at each, on a grid, in a
 /// triangle, close together.
-fn flat_places(size: usize, n: &mut Numbers) -> Vec<[f64; 2]> {
+fn flat_positions(size: usize, n: &mut Numbers) -> Vec<[f64; 2]> {
     let reach = [0.001, 0.02, 0.1, 1.0, 1.0, 10.0, 1000.0][n.below(7)];
     let middle = [n.between(-3.0, 3.0), n.between(-3.0, 3.0)];
     let sort = n.below(9);

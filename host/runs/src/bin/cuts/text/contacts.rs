@@ -7,10 +7,10 @@ use cases::pairs::{self, Pair};
 use cases::{convert, inputs, met, one_in, same, Numbers, Tally};
 use oracle::hull::HullData;
 use oracle::math_functions::{mul_sv, Quat, Transform};
-use oracle::open::{collide_hulls, search, LocalManifold, SatCache, SeparatingFeature};
+use oracle::open::{collide_hulls_placed, search, LocalManifold, SatCache, SeparatingFeature};
 use oracle::quiet;
 use oracle::transcribed::FaceCuts;
-use probes::{ClipVertex, Clipped, MAX_CLIP_POINTS, MAX_MANIFOLD_POINTS};
+use probes::{ClipVertex, Clipped, Point, MAX_CLIP_POINTS, MAX_MANIFOLD_POINTS};
 use runs::{accepted, corners};
 
 /// Both hulls in both records.
@@ -136,9 +136,9 @@ fn candidates(
     m.one_or_two += u64::from([1, 2].contains(&kept.len()));
 }
 
-/// The text's call with its own cache type 6, beside the candidates, their images and the picks. The type is retired, and here
-/// a door into the text: it builds the contact on the best face of A and ends there, which no function of the text's does that
-/// can be called.
+/// The text's call with its own cache type 6, beside the candidates, their images and the picks; by the copy of the text, for
+/// the places. The type is retired, and here a door into the text: it builds the contact on the best face of A and ends there,
+/// which no function of the text's does that can be called.
 fn whole(t: &mut Tally, m: &mut Met, both: &Both, face: usize, vertex: usize) {
     let transform = both.pair.transform;
     let theirs = quiet(|| {
@@ -148,7 +148,7 @@ fn whole(t: &mut Tally, m: &mut Met, both: &Both, face: usize, vertex: usize) {
             ..SatCache::default()
         };
         let capacity = MAX_MANIFOLD_POINTS as i32;
-        collide_hulls(
+        collide_hulls_placed(
             &mut manifold,
             capacity,
             &both.a,
@@ -168,7 +168,7 @@ fn whole(t: &mut Tally, m: &mut Met, both: &Both, face: usize, vertex: usize) {
             let images = probes::images(&cut.polygon, normal);
             let contact = picks::contact(&images, normal);
             let made = &manifold.points[..manifold.point_count as usize];
-            let made: Vec<ClipVertex> = made.iter().map(corners::our_point).collect();
+            let made: Vec<Point> = made.iter().map(convert::our_contact_point).collect();
             let next = (SeparatingFeature::FaceAxisA as u8, face as u8, vertex as u8);
             !cut.full
                 && contact_is(&contact, convert::ours(manifold.normal), &made)
