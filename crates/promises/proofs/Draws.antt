@@ -2,7 +2,7 @@
 use Prim.Native.Nat.{ℕ, zero, suc, _<_}
 use mathlib.Core.Bool.{Bool, true, false, cond, false≢true}
 use mathlib.Core.List.{List, [], _∷_, map}
-use mathlib.Core.Path.{_≡_, refl, sym, ap, ap₂, subst, _∙_}
+use mathlib.Core.Path.{_≡_, refl, sym, ap, subst, _∙_}
 use native.Mathlib.Omega.{arith}
 use lib.ListN.{length, getD, length-map}
 use lib.Dec.{eqb, ltb}
@@ -31,7 +31,7 @@ use Rattle.hull.specs.Numbers.{planeAt}
 use Rattle.clip.specs.Candidates.{candidatesOf}
 use Rattle.reduce_scores.specs.Images.{imageOf}
 use Rattle.reduce_points.specs.Points.{pointOf, placedFrom, normalOf, contactOf}
-use Rattle.reduce.specs.Reduce.{firstPicks, pointsOf, placesOf, numbered}
+use Rattle.reduce.specs.Reduce.{firstPicks, pointsOf, placesOf}
 use Rattle.reduce.specs.Chosen.{Chosen}
 use Rattle.reduce.proofs.Chosen.{chosen}
 use Rattle.axis.specs.declared.Axis.{Axis}
@@ -76,7 +76,7 @@ map-twice g h (v ∷ vs) = ap (λ l. g (h v) ∷ l) (map-twice g h vs)
 
 -- one point of one image
 one-chosen : (v : ClipVertex) → Chosen (v ∷ []) (pointOf 0 v ∷ []) (0 ∷ [])
-unfolding placedFrom numbered
+unfolding placedFrom
 one-chosen v =
     record {
       few = omega arith;
@@ -84,7 +84,6 @@ one-chosen v =
       below = λ i h. at-first i h;
       apart = λ i j h q. absurd (omega (arith, h, q));
       all = λ h. refl;
-      order = λ h. refl;
     }
   where
     at-first : (i : ℕ) → i < 1 → getD (0 ∷ []) i 0 < 1
@@ -92,14 +91,13 @@ one-chosen v =
     at-first (suc i) h = absurd (omega (arith, h))
 
 none-chosen : Chosen [] [] []
-unfolding placedFrom numbered
+unfolding placedFrom
 none-chosen = record {
   few = omega arith;
   same = refl;
   below = λ i h. absurd (omega (arith, h));
   apart = λ i j h q. absurd (omega (arith, h, q));
   all = λ h. refl;
-  order = λ h. refl;
 }
 
 module _ (s : HullSize) (n : List Float) (l : List ℕ) (t : HullSize) (m : List Float) (k : List ℕ) (x : Transform) where

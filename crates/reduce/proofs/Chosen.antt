@@ -10,7 +10,7 @@ use lib.Dec.{eqb, leb}
 use lib.ListN.{length, getD, length-append, length-map, List·getD-append}
 use lib.Seq.{ext-getD, getD-at}
 use lib.Ieee.{lt}
-use borrow.Author.Tests.{eqb-true, eqb-false, leb-true, le-leb}
+use borrow.Author.Tests.{eqb-true, eqb-false, leb-true}
 use Rattle.vector.specs.declared.Vec3.{Vec3}
 use Rattle.manifold.specs.declared.ClipVertex.{ClipVertex}
 use Rattle.manifold.specs.declared.Point.{Point}
@@ -202,10 +202,6 @@ module _ (js : List ℕ) (n : ℕ) (p : Picked 4 js n) where
   unfolding allOrPicked
   once-kept m e h = cases (leb (length m) 4) (λ t. rw t h) (λ t. rw t (once-taken m p e h))
 
-all-of-few : {A : Type 0} (js : List ℕ) (d : A) (l : List A) → length l ≤ 4 → allOrPicked d js l ≡ l
-unfolding allOrPicked
-all-of-few js d l h = rw (le-leb (length l) 4 h)
-
 -- ---- the theorem
 -- the picks are made by the scores of l, and take from images that are as many
 pub chosen : (direction normal : Vec3) (l images : List ClipVertex) → length images ≡ length l
@@ -225,7 +221,6 @@ chosen direction normal l images as-many =
       below = every-kept js n p (λ (x : ℕ). x < n) (numbered n) m low;
       apart = λ i j h k e. let q = once-kept js n p (numbered n) m once i j (omega arith) k e in omega arith;
       all = λ h. sym (all-kept js images h);
-      order = λ h. all-of-few js 0 (numbered n) (omega (arith, m, h));
     }
 
 -- points that are carried are the points of the carried images

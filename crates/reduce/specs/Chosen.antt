@@ -8,7 +8,6 @@ use Rattle.manifold.specs.declared.ClipVertex.{ClipVertex}
 use Rattle.manifold.specs.declared.Point.{Point}
 use Rattle.manifold.specs.Records.{pastVertex}
 use Rattle.reduce_points.specs.Points.{pointOf, placed}
-use Rattle.reduce.specs.Reduce.{numbered}
 
 -- points chosen from a list of images; each is the image at its place, and says so
 pub record Chosen (images : List ClipVertex) (points : List Point) (places : List ℕ) : Type 0 where
@@ -17,4 +16,3 @@ pub record Chosen (images : List ClipVertex) (points : List Point) (places : Lis
   pub below : (i : ℕ) → i < length places → getD places i 0 < length images
   pub apart : (i j : ℕ) → i < j → j < length places → getD places i 0 ≡ getD places j 0 → ⊥
   pub all : length images ≤ 4 → points ≡ placed images
-  pub order : length images ≤ 4 → places ≡ numbered (length images)

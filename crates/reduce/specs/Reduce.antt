@@ -2,15 +2,15 @@
 -- says which candidate it is, by "the place of its candidate in the list as it stood before any pick" (document 02, d). Definitions only.
 use Prim.Native.Nat.{ℕ, zero, suc, _-_}
 use mathlib.Core.Bool.{cond, false}
-use mathlib.Core.List.{List, [], _∷_, _++_, map}
-use lib.ListN.{length, take, set, getD, replicate}
+use mathlib.Core.List.{List, [], _∷_, _++_}
+use lib.ListN.{length, take, set, getD}
 use lib.Dec.{eqb, leb}
 use lib.Ieee as Ieee
 use lib.Ieee.{Float}
 use Rattle.vector.specs.declared.Vec3.{Vec3}
 use Rattle.vector.specs.Rounded.{float, _⊗_}
 use Rattle.vector.specs.Scalar.{absOf}
-use Rattle.vector.specs.Arithmetic.{zeroVec, subOf}
+use Rattle.vector.specs.Arithmetic.{subOf}
 use Rattle.manifold.specs.declared.ClipVertex.{ClipVertex}
 use Rattle.manifold.specs.declared.Point.{Point}
 use Rattle.manifold.specs.Records.{pastVertex, pastPoint}

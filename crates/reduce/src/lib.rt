@@ -3,7 +3,6 @@
 // it. What each point is, and which candidate, is in specs/Reduce.antt.
 pub mod places;
 
-ghost use mathlib.Core.List.{[], _∷_};
 ghost use mathlib.Core.Path.{_≡_};
 ghost use Prim.Native.Nat.{_≤_, _<_};
 ghost use Rattle.manifold.specs.Records.{pastPoint};
