@@ -51,7 +51,7 @@ if [ "$linked" ]; then
     echo "the library exports $declared, needs memcpy and memset alone and has no memory of its own"
 fi
 
-# ---- its records against the library, on the stored frames
+# ---- its records against the library, on the stored frames and on the largest hulls; what calls need of the stack
 compile_both() { # MORE WORDS..: the test of the header, as C and as C++
     cc -std=c11 -O2 $strict -pedantic host/c/tests/frames.c -o "$outside/frames-c" "$@" || fail "the header's test is no C"
     c++ -std=c++17 -O2 $strict -x c++ host/c/tests/frames.c -x none -o "$outside/frames-cpp" "$@" || fail "the header's test is no C++"
@@ -59,8 +59,15 @@ compile_both() { # MORE WORDS..: the test of the header, as C and as C++
 if [ "$linked" ]; then
     # bound at once: the loader's own work in a first call would be seen on the painted stack
     compile_both "$prefix/lib/libcontactlib.a" -pthread -Wl,-z,now
+    files=("stored frames" crates/contact/stdin crates/contact/stdout)
+    host/target/release/largest "$outside/largest.frames" "$outside/largest.answers" 2>"$outside/said"
+    case $? in
+    0) files+=("the largest hulls" "$outside/largest.frames" "$outside/largest.answers") ;;
+    2) echo "LEFT OUT: calls on the largest hulls: $(cat "$outside/said")" ;;
+    *) fail "calls on the largest hulls could not be written: $(cat "$outside/said")" ;;
+    esac
     for language in c cpp; do
-        "$outside/frames-$language" crates/contact/stdin crates/contact/stdout || fail "the header's records are not the library's ($language)"
+        "$outside/frames-$language" "${files[@]}" || fail "the header's records are not the library's, or a call needs more stack than is stated ($language)"
     done
 else
     compile_both -c

@@ -40,9 +40,9 @@ extern "C" {
 /* The most bytes of an answer to a frame. */
 #define CONTACT_LONGEST_ANSWER 108
 
-/* Bytes of stack that a call needs at the most; contact_first_broken_rule needs less. */
-#define CONTACT_COLLIDE_STACK (80 * 1024)
-#define CONTACT_ANSWER_STACK (88 * 1024)
+/* Bytes of stack that a call needs at the most, whatever the hulls are; contact_first_broken_rule needs less. */
+#define CONTACT_COLLIDE_STACK (24 * 1024)
+#define CONTACT_ANSWER_STACK (32 * 1024)
 
 /* ---- what a call is handed */
 

@@ -99,10 +99,15 @@ module _ {bias : Float} {d : Vec3} {s : HullSize} {n : List Float} (R : SupportR
   lanes-after zero h = let l : Lane (padded s) huge = huge-lane (omega (arith, R .fit .v-low)) in record { on-x = l; on-y = l; on-z = l; on-w = l }
   lanes-after (suc g) h = least-lanes (lanes-after g (omega (arith, h))) (group-lanes (4 * g) (omega (arith, h)))
 
-  pub lanes-finite : (g : ℕ) (a : FloatW) → g ≤ (s .vertices + 3) / 4 → a ≡ leastLanes bias d s n g → FiniteW a
-  lanes-finite g a h e =
-      let l = lanes-after g h in
+  finite-lanes : {v a : FloatW} → FourLanes (padded s) v → a ≡ v → FiniteW a
+  finite-lanes l e =
       subst FiniteW (sym e) (record { on-x = l .on-x .bounded; on-y = l .on-y .bounded; on-z = l .on-z .bounded; on-w = l .on-w .bounded })
+
+  pub group-finite : (base : ℕ) (a : FloatW) → base + 3 < padded s → a ≡ groupOf bias d s n base → FiniteW a
+  group-finite base a h e = finite-lanes (group-lanes base h) e
+
+  pub lanes-finite : (g : ℕ) (a : FloatW) → g ≤ (s .vertices + 3) / 4 → a ≡ leastLanes bias d s n g → FiniteW a
+  lanes-finite g a h e = finite-lanes (lanes-after g h) e
 
   pub support-in : supportOf bias d s n < padded s
   unfolding supportOf

@@ -59,7 +59,7 @@ row-kept {g} {n} {m} {p} {at} {was} {is} v w r h f =
       each = λ k q. f .kept (p + k) (omega (arith, q, h)) ∙ r .each k q;
     }
 
--- the vectors of a list under another name
-pub row-same : {v : Vec3} {n at : ℕ} {table : List Float} (g : ℕ → Vec3) (lists : List Float) → Three g n lists → Row v (vectorIn lists) n at table
-    → Row v g n at table
-row-same {v} g lists e r = record { room = r .room; each = λ k q. r .each k q ∙ ap (dotRight v) (e .each k q) }
+-- the vectors of a list under another name, in a row that may be longer
+pub row-same : {v : Vec3} {n width at : ℕ} {table : List Float} (g : ℕ → Vec3) (lists : List Float) → n ≤ width → Three g n lists
+    → Row v (vectorIn lists) width at table → Row v g n at table
+row-same {v} g lists h e r = record { room = omega (arith, r .room, h); each = λ k q. r .each k (omega (arith, q, h)) ∙ ap (dotRight v) (e .each k q) }

@@ -11,10 +11,10 @@ use Rattle.vector.specs.declared.Vec3.{Vec3}
 use Rattle.hull_links.specs.declared.HullSize.{HullSize}
 use Rattle.hull_links.specs.Links.{face}
 use Rattle.axis_edges.specs.declared.EdgeB.{EdgeB}
-use Rattle.axis_lists.specs.inner.Lists.{vectorIn, Three, Row}
+use Rattle.axis_lists.specs.inner.Lists.{vectorIn, Row}
 use Rattle.axis_lists.specs.inner.Fills.{Filled, dotAt}
-use Rattle.axis_lists.proofs.Lists.{row-made, row-kept, row-same}
-use Rattle.axis_pairs.specs.inner.Pairs.{edgeIn, Table}
+use Rattle.axis_lists.proofs.Lists.{row-made, row-kept}
+use Rattle.axis_pairs.specs.inner.Pairs.{edgeIn, Table, BothRows}
 
 -- row f ends before row k begins
 rows-apart : (f k n : ℕ) → f < k → f * n + n ≤ k * n
@@ -52,24 +52,27 @@ module _ (turned ds : List Float) (n : ℕ) (was : List Float) where
     pub ends : f ≤ faces → faces ≤ f → (length table ≡ length was) × Table turned faces (vectorIn ds) n table
     ends h k = (t .long, subst (λ (z : ℕ). Table turned z (vectorIn ds) n table) (le-antisymm h k) (t .rows))
 
--- ---- reading: along the vectors that the list of directions holds
-pub table-same : (turned : List Float) (faces : ℕ) (g : ℕ → Vec3) (ds : List Float) (n : ℕ) (table : List Float) → Three g n ds
-    → Table turned faces (vectorIn ds) n table → Table turned faces g n table
-table-same turned faces g ds n table e t = record { row = λ f h. row-same g ds e (t .row f h) }
+-- ---- two rows at a time: the second is filled behind the first
+pub both-made : (b : EdgeB) (ds : List Float) (n at : ℕ) (l₀ l₁ l₂ : List Float) → n ≤ at → at + n ≤ length l₀
+    → Filled (dotAt (b .normal0) ds) 0 n l₀ l₁ → Filled (dotAt (b .normal1) ds) at n l₁ l₂ → BothRows b (vectorIn ds) n 0 at l₂
+both-made b ds n at l₀ l₁ l₂ h e fill0 fill1 =
+    record {
+      row0 = row-kept (b .normal0) (dotAt (b .normal1) ds) (row-made (b .normal0) ds (omega (arith, e)) fill0) (omega (arith, h)) fill1;
+      row1 = row-made (b .normal1) ds (omega (arith, e, fill0 .long)) fill1;
+    }
 
--- the rows of the two faces of an edge of B, under the names that the code has
+-- ---- reading: the rows of the two faces of an edge of B, under the names that the code has
 row-of : (turned : List Float) (faces : ℕ) (g : ℕ → Vec3) (n : ℕ) (table : List Float) → Table turned faces g n table → (f : ℕ) → f < faces
     → (c : Vec3) (p : ℕ) → c ≡ vectorIn turned f → p ≡ f → Row c g n (p * n) table
 row-of turned faces g n table t f h c p e d =
     subst (λ (m : ℕ). Row c g n (m * n) table) (sym d) (subst (λ (v : Vec3). Row v g n (f * n) table) (sym e) (t .row f h))
 
-module _ (turned points : List Float) (s : HullSize) (l : List ℕ) (g : ℕ → Vec3) (n : ℕ) (table : List Float) (t : Table turned (s .faces) g n table)
-    (j : ℕ) (b : EdgeB)
-    (e : b ≡ edgeIn turned points s l j) (p : ℕ) where
-  pub row0-of : face s l (2 * j) < s .faces → p ≡ face s l (2 * j) → Row (b .normal0) g n (p * n) table
-  unfolding edgeIn
-  row0-of h d = row-of turned (s .faces) g n table t (face s l (2 * j)) h (b .normal0) p (ap (λ (x : EdgeB). x .normal0) e) d
-
-  pub row1-of : face s l (2 * j + 1) < s .faces → p ≡ face s l (2 * j + 1) → Row (b .normal1) g n (p * n) table
-  unfolding edgeIn
-  row1-of h d = row-of turned (s .faces) g n table t (face s l (2 * j + 1)) h (b .normal1) p (ap (λ (x : EdgeB). x .normal1) e) d
+pub both-of : (turned points : List Float) (s : HullSize) (l : List ℕ) (g : ℕ → Vec3) (n : ℕ) (table : List Float) → Table turned (s .faces) g n table
+    → (j : ℕ) (b : EdgeB) → b ≡ edgeIn turned points s l j → (p q : ℕ) → face s l (2 * j) < s .faces → face s l (2 * j + 1) < s .faces
+    → p ≡ face s l (2 * j) → q ≡ face s l (2 * j + 1) → BothRows b g n (p * n) (q * n) table
+unfolding edgeIn
+both-of turned points s l g n table t j b e p q h0 h1 d0 d1 =
+    record {
+      row0 = row-of turned (s .faces) g n table t (face s l (2 * j)) h0 (b .normal0) p (ap (λ (x : EdgeB). x .normal0) e) d0;
+      row1 = row-of turned (s .faces) g n table t (face s l (2 * j + 1)) h1 (b .normal1) q (ap (λ (x : EdgeB). x .normal1) e) d1;
+    }

@@ -10,7 +10,7 @@ ghost use Rattle.axis_edges.specs.Edges.{edgeOfA, edgeOfB};
 ghost use Rattle.axis_edges.specs.inner.Ready.{EdgesIn};
 ghost use Rattle.axis_lists.specs.inner.Lists.{vectorIn, Three};
 ghost use Rattle.axis_pairs.specs.All.{allPairs};
-ghost use Rattle.axis_pairs.specs.inner.Pairs.{edgeIn, Table, ScanReady};
+ghost use Rattle.axis_pairs.specs.inner.Pairs.{edgeIn, Table, BothRows, ScanReady};
 use axis_best::Lead;
 use axis_edges::EdgeB;
 use hull_links::HullSize;
@@ -33,18 +33,25 @@ fn edge_of_b(normals: &[f32], points: &[f32], links: &[u8], size: HullSize, j: u
     }
 }
 
-// Every normal of B along every edge of A, n places to a face.
-fn fill_table(normals: &[f32], faces: usize, directions: &[f32], n: usize, table: &mut [f32])
-    requires { ⌜ (faces ≤ 128) × (n ≤ 128) × (length (now normals) ≡ 384) × (length (now directions) ≡ 384) × (faces * n ≤ length (now table)) ⌝ }
+// Every normal of B along every edge of A, `width` places to a face.
+fn fill_table(normals: &[f32], faces: usize, directions: &[f32], width: usize, table: &mut [f32])
+    requires { ⌜ (faces ≤ 128) × (width ≤ 128) × (length (now normals) ≡ 384) × (length (now directions) ≡ 384)
+        × (faces * width ≤ length (now table)) ⌝ }
     ensures { λ _. ⌜ (length (now (table .exit)) ≡ length (now (table .entry)))
-        × Table (now (normals .entry)) faces (vectorIn (now (directions .entry))) n (now (table .exit)) ⌝ }
+        × Table (now (normals .entry)) faces (vectorIn (now (directions .entry))) width (now (table .exit)) ⌝ }
 {
     let mut f = 0;
     let mut at = 0;
     while f < faces {
-        axis_lists::fill_row(axis_lists::vector_in(normals, f), directions, n, table, at);
+        axis_lists::fill_row(
+            axis_lists::vector_in(normals, f),
+            directions,
+            width,
+            table,
+            at,
+        );
         f += 1;
-        at += n;
+        at += width;
     }
 }
 
@@ -66,9 +73,66 @@ fn three_lists() -> [f32; 384]
     [0.0f32; 384]
 }
 
-// The first m edges of B against the first n of A, from a full table.
+// Fills the table with every row where there is room for them, as for two logs, and says whether.
+fn fill_whole(
+    normals: &[f32],
+    faces: usize,
+    directions: &[f32],
+    width: usize,
+    table: &mut [f32],
+) -> bool
+    requires { ⌜ (faces ≤ 128) × (width ≤ 128) × (length (now normals) ≡ 384) × (length (now directions) ≡ 384) × (length (now table) ≡ 1024) ⌝ }
+    ensures { λ r. ⌜ (length (now (table .exit)) ≡ 1024)
+        × (r ≡ true → Table (now (normals .entry)) faces (vectorIn (now (directions .entry))) width (now (table .exit))) ⌝ }
+{
+    if 1024 < faces * width {
+        return false;
+    }
+    fill_table(normals, faces, directions, width, table);
+    true
+}
+
+// Where the rows of the two faces of an edge of B begin.
+struct Rows {
+    first: usize,
+    second: usize,
+}
+
+// The rows of the faces `first` and `second`, between which edge b of B lies: where the table holds every row they stand there, else they are filled
+// in, each with room for the most edges that a hull has.
+fn rows_of(
+    whole: bool,
+    first: usize,
+    second: usize,
+    b: EdgeB,
+    directions: &[f32],
+    width: usize,
+    table: &mut [f32],
+) -> Rows
+    requires { ⌜ (width ≤ 128) × (length (now directions) ≡ 384) × (length (now table) ≡ 1024)
+        × (whole ≡ true → BothRows b (vectorIn (now directions)) width (first * width) (second * width) (now table)) ⌝ }
+    ensures { λ r. ⌜ (length (now (table .exit)) ≡ 1024) × (whole ≡ true → now (table .exit) ≡ now (table .entry))
+        × BothRows b (vectorIn (now (directions .entry))) width (r .first) (r .second) (now (table .exit)) ⌝ }
+{
+    if whole {
+        return Rows {
+            first: first * width,
+            second: second * width,
+        };
+    }
+    axis_lists::fill_row(b.normal0, directions, width, table, 0);
+    axis_lists::fill_row(b.normal1, directions, width, table, 128);
+    Rows {
+        first: 0,
+        second: 128,
+    }
+}
+
+// The first m edges of B against the first n of A. The table holds every row, or has room for the two of one edge.
 fn scan_rows(
-    table: &[f32],
+    whole: bool,
+    width: usize,
+    directions: &[f32],
     n: usize,
     numbers: &[f32],
     links: &[u8],
@@ -79,10 +143,11 @@ fn scan_rows(
     links_b: &[u8],
     size_b: HullSize,
     m: usize,
+    table: &mut [f32],
 ) -> Lead
     requires { ⌜ ScanReady size (now numbers) (now links) n (now normals) (now turned) (now points) «size_b» (now «links_b») m
-        × Table (now turned) («size_b» .faces) (λ k. edgeOfA size (now numbers) (now links) k .direction) n (now table)
-        × (length (now table) ≤ 65536) ⌝ }
+        × Three (λ k. edgeOfA size (now numbers) (now links) k .direction) n (now directions) × (n ≤ width) × (width ≤ 128)
+        × (length (now table) ≡ 1024) × (whole ≡ true → Table (now turned) («size_b» .faces) (vectorIn (now directions)) width (now table)) ⌝ }
     ensures { λ r. ⌜ r ≡ allPairs (edgeOfA size (now (numbers .entry)) (now (links .entry))) n
         (edgeIn (now (turned .entry)) (now (points .entry)) «size_b» (now («links_b» .entry))) m ⌝ }
 {
@@ -93,12 +158,14 @@ fn scan_rows(
     let mut j = 0;
     while j < m {
         let b = edge_of_b(turned, points, links_b, size_b, j);
-        let p = hull_links::face_of(links_b, size_b, 2 * j);
-        let q = hull_links::face_of(links_b, size_b, 2 * j + 1);
+        let first = hull_links::face_of(links_b, size_b, 2 * j);
+        let second = hull_links::face_of(links_b, size_b, 2 * j + 1);
+        let rows = rows_of(whole, first, second, b, directions, width, table);
         lead = axis_row::scan_row(
             table,
-            p * n,
-            q * n,
+            rows.first,
+            rows.second,
+            width,
             n,
             numbers,
             links,
@@ -119,7 +186,22 @@ fn scan_rows(
     lead
 }
 
-// The table is filled and the rows are scanned; the table is lent with room for every normal of B along every edge of A.
+// How many places a row of n edges has: eights, so that no edge is done alone. What stands above the edges is not looked at.
+fn width_of(n: usize) -> usize
+    requires { ⌜ n ≤ 128 ⌝ }
+    ensures { λ r. ⌜ (n ≤ r) × (r ≤ 128) ⌝ }
+{
+    (n + 7) / 8 * 8
+}
+
+fn empty_table() -> [f32; 1024]
+    ensures { λ r. ⌜ 1024 ≡ length r ⌝ }
+{
+    [0.0f32; 1024]
+}
+
+// The rows are scanned, in a table that holds all of them for a small pair and two at a time for a large one. It has 1,024 places whatever the hulls
+// are: room for every row of the largest would be 64 KB of the caller's stack.
 fn scan(
     directions: &[f32],
     n: usize,
@@ -132,17 +214,19 @@ fn scan(
     links_b: &[u8],
     size_b: HullSize,
     m: usize,
-    table: &mut [f32],
 ) -> Lead
     requires { ⌜ ScanReady size (now numbers) (now links) n (now normals) (now turned) (now points) «size_b» (now «links_b») m
-        × Three (λ k. edgeOfA size (now numbers) (now links) k .direction) n (now directions)
-        × («size_b» .faces * n ≤ length (now table)) × (length (now table) ≤ 65536) ⌝ }
+        × Three (λ k. edgeOfA size (now numbers) (now links) k .direction) n (now directions) ⌝ }
     ensures { λ r. ⌜ r ≡ allPairs (edgeOfA size (now (numbers .entry)) (now (links .entry))) n
         (edgeIn (now (turned .entry)) (now (points .entry)) «size_b» (now («links_b» .entry))) m ⌝ }
 {
-    fill_table(turned, size_b.faces, directions, n, table);
+    let width = width_of(n);
+    let mut table = empty_table();
+    let whole = fill_whole(turned, size_b.faces, directions, width, &mut table);
     scan_rows(
-        table,
+        whole,
+        width,
+        directions,
         n,
         numbers,
         links,
@@ -153,11 +237,12 @@ fn scan(
         links_b,
         size_b,
         m,
+        &mut table,
     )
 }
 
-// All pairs of an edge of A and an edge of B, with B turned by r and moved to `position`; the table is lent with room for them.
-fn search_with(
+// All pairs of an edge of A and an edge of B, with B turned by r and moved to `position`.
+pub fn search_edges(
     numbers: &[f32],
     links: &[u8],
     size: HullSize,
@@ -166,10 +251,8 @@ fn search_with(
     size_b: HullSize,
     r: [[f32; 3]; 3],
     position: Vec3,
-    table: &mut [f32],
 ) -> Lead
-    requires { ⌜ NumbersFit size (now numbers) × EdgesIn size (now links) × NumbersFit «size_b» (now «numbers_b») × EdgesIn «size_b» (now «links_b»)
-        × («size_b» .faces * (size .«half_edges» / 2) ≤ length (now table)) × (length (now table) ≤ 65536) ⌝ }
+    requires { ⌜ NumbersFit size (now numbers) × EdgesIn size (now links) × NumbersFit «size_b» (now «numbers_b») × EdgesIn «size_b» (now «links_b») ⌝ }
     ensures { λ x. ⌜ x ≡ allPairs (edgeOfA size (now (numbers .entry)) (now (links .entry))) (size .«half_edges» / 2)
         (edgeOfB r position «size_b» (now («numbers_b» .entry)) (now («links_b» .entry))) («size_b» .«half_edges» / 2) ⌝ }
 {
@@ -195,69 +278,5 @@ fn search_with(
         links_b,
         size_b,
         m,
-        table,
-    )
-}
-
-fn small_table() -> [f32; 1024]
-    ensures { λ r. ⌜ 1024 ≡ length r ⌝ }
-{
-    [0.0f32; 1024]
-}
-
-fn large_table() -> [f32; 16384]
-    ensures { λ r. ⌜ 16384 ≡ length r ⌝ }
-{
-    [0.0f32; 16384]
-}
-
-// The table fits into 1,024 places, as for two logs; it is cleared before it is filled, so a small one is faster.
-fn fits_small(faces: usize, n: usize) -> bool
-    requires { ⌜ (faces ≤ 128) × (n ≤ 128) ⌝ }
-    ensures { λ r. ⌜ (r ≡ true → faces * n ≤ 1024) ⌝ }
-{
-    faces * n <= 1024
-}
-
-// All pairs, with a table that has room for them.
-pub fn search_edges(
-    numbers: &[f32],
-    links: &[u8],
-    size: HullSize,
-    numbers_b: &[f32],
-    links_b: &[u8],
-    size_b: HullSize,
-    r: [[f32; 3]; 3],
-    position: Vec3,
-) -> Lead
-    requires { ⌜ NumbersFit size (now numbers) × EdgesIn size (now links) × NumbersFit «size_b» (now «numbers_b») × EdgesIn «size_b» (now «links_b») ⌝ }
-    ensures { λ x. ⌜ x ≡ allPairs (edgeOfA size (now (numbers .entry)) (now (links .entry))) (size .«half_edges» / 2)
-        (edgeOfB r position «size_b» (now («numbers_b» .entry)) (now («links_b» .entry))) («size_b» .«half_edges» / 2) ⌝ }
-{
-    if fits_small(size_b.faces, size.half_edges / 2) {
-        let mut table = small_table();
-        return search_with(
-            numbers,
-            links,
-            size,
-            numbers_b,
-            links_b,
-            size_b,
-            r,
-            position,
-            &mut table,
-        );
-    }
-    let mut table = large_table();
-    search_with(
-        numbers,
-        links,
-        size,
-        numbers_b,
-        links_b,
-        size_b,
-        r,
-        position,
-        &mut table,
     )
 }

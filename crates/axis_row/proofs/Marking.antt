@@ -1,5 +1,5 @@
 -- The marks of the first pass: one more, how many there can be, and what they tell. Assumes nothing.
-use Prim.Native.Nat.{ℕ, zero, suc, _+_, _≤_, _<_}
+use Prim.Native.Nat.{ℕ, zero, suc, _+_, _-_, _≤_, _<_}
 use mathlib.Core.Path.{_≡_, refl, sym, ap, _∙_, subst}
 use mathlib.Core.Bool.{Bool, true, false, cond}
 use mathlib.Core.List.{List, [], _∷_, _++_}
@@ -35,6 +35,15 @@ module _ (fails : ℕ → Bool) where
   few-pass zero = omega arith
   few-pass (suc n) = omega (arith, few-pass n, length-more n, bit (fails n))
 
+  fewer-pass : (n width : ℕ) → n ≤ width → length (passing fails (upTo n)) ≤ length (passing fails (upTo width))
+  fewer-pass n width h = more (width - n) width (omega (arith, h))
+    where
+      more : (d w : ℕ) → d + n ≡ w → length (passing fails (upTo n)) ≤ length (passing fails (upTo w))
+      more zero w e = subst (λ (x : ℕ). length (passing fails (upTo n)) ≤ length (passing fails (upTo x))) {x = n} (omega (arith, e)) (omega arith)
+      more (suc d) w e =
+          subst (λ (x : ℕ). length (passing fails (upTo n)) ≤ length (passing fails (upTo x))) {x = suc (d + n)} (omega (arith, e))
+          (omega (arith, more d (d + n) refl, length-more (d + n)))
+
   -- ---- the loop
   pub begins : (marks : List ℕ) → length marks ≡ 128 → Marked fails 0 0 marks
   unfolding passing upTo
@@ -69,8 +78,9 @@ module _ (fails : ℕ → Bool) where
       by true = refl
       by false = refl
 
-  pub none-marked : (n count : ℕ) (marks : List ℕ) → Marked fails n count marks → count ≡ 0 → [] ≡ passing fails (upTo n)
-  none-marked n count marks m h = empty (passing fails (upTo n)) (sym (m .counted) ∙ h)
+  -- where none of the first `width` is marked, none of fewer passes
+  pub none-marked : (width n count : ℕ) (marks : List ℕ) → Marked fails width count marks → n ≤ width → count ≡ 0 → [] ≡ passing fails (upTo n)
+  none-marked width n count marks m few h = empty (passing fails (upTo n)) (omega (arith, m .counted, h, fewer-pass n width few))
     where
       empty : (xs : List ℕ) → length xs ≡ 0 → [] ≡ xs
       empty [] q = refl

@@ -56,7 +56,7 @@ along-is : (d : Vec3) (g : ℕ → Vec3) (n : ℕ) (normals was is : List Float)
     → (f : ℕ) → f < n → getD is f nan ≡ dotRight (g f) d
 along-is d g n normals was is h t fill f q =
     let z : f ≡ 0 + f = omega arith in
-    let row : Row d g n 0 is = row-same g normals t (row-made d normals (omega (arith, h)) fill) in
+    let row : Row d g n 0 is = row-same g normals (omega arith) t (row-made d normals (omega (arith, h)) fill) in
     ap (λ (i : ℕ). getD is i nan) z ∙ row .each f q ∙ dot-turns d (g f)
 
 module _ (s : HullSize) (n : List Float) (l : List ℕ) (count : ℕ) (normals : List Float) (b : EdgeB) (j : ℕ) (start : Lead)

@@ -9,7 +9,7 @@ ghost use Rattle.hull_links.specs.Links.{NumbersFit};
 ghost use Rattle.axis_best.specs.Leads.{leadAfter};
 ghost use Rattle.axis_edges.specs.Edges.{edgeOfA, rowPairs};
 ghost use Rattle.axis_edges.specs.inner.Ready.{EdgesIn};
-ghost use Rattle.axis_row.specs.inner.Marks.{atLeastEps, failsFirst, passing, upTo, Marked, unmarked};
+ghost use Rattle.axis_row.specs.inner.Marks.{atLeastEps, failsFirst, passing, upTo, Wide, Marked, unmarked};
 ghost use Rattle.axis_row.specs.inner.Sift.{failsLater};
 ghost use Rattle.axis_row.specs.inner.Rows.{triedAt, RowReady};
 use axis_best::Lead;
@@ -80,13 +80,22 @@ fn gather(marks: &[u8], n: usize, list: &mut [u8]) -> usize
 }
 
 // Of the edges 0 to n - 1 of A, those that pass the first test, in their order; the return says how many. Marks come first, since they go four at a
-// time and tell whether there is anything to gather: for every other edge of B of two logs that lie flat there is not.
-pub fn sift(table: &[f32], p: usize, q: usize, n: usize, list: &mut [u8], marks: &mut [u8]) -> usize
-    requires { ⌜ (n ≤ 128) × (p + n ≤ length (now table)) × (q + n ≤ length (now table)) × (length (now list) ≡ 128) × (length (now marks) ≡ 128) ⌝ }
+// time and tell whether there is anything to gather: for every other edge of B of two logs that lie flat there is not. They go over the whole width
+// of a row, so that no edge is done alone; what the places above A's edges hold may keep a row from being left early and does nothing else.
+pub fn sift(
+    table: &[f32],
+    p: usize,
+    q: usize,
+    width: usize,
+    n: usize,
+    list: &mut [u8],
+    marks: &mut [u8],
+) -> usize
+    requires { ⌜ Wide width n p q (now table) × (length (now list) ≡ 128) × (length (now marks) ≡ 128) ⌝ }
     ensures { λ r. ⌜ (r ≤ n) × (length (now (list .exit)) ≡ 128) × (length (now (marks .exit)) ≡ 128)
         × (take r (now (list .exit)) ≡ passing (failsFirst (now (table .entry)) p q) (upTo n)) ⌝ }
 {
-    if mark(table, p, q, n, marks) == 0 {
+    if mark(table, p, q, width, marks) == 0 {
         return 0;
     }
     gather(marks, n, list)
@@ -158,11 +167,13 @@ fn scan_list(
     lead
 }
 
-// Edge j of B against the edges of A. B's two normals along A's edges stand in the table from p and from q on; the other three slices are lent for work.
+// Edge j of B against the edges of A. B's two normals along A's edges stand in the table from p and from q on, in rows of `width` places; the other
+// three slices are lent for work.
 pub fn scan_row(
     table: &[f32],
     p: usize,
     q: usize,
+    width: usize,
     n: usize,
     numbers: &[f32],
     links: &[u8],
@@ -176,11 +187,11 @@ pub fn scan_row(
     out: &mut [u8],
 ) -> Lead
     requires { ⌜ RowReady size (now numbers) (now links) n (now normals) b j start (now table) p q × (length (now along) ≡ 128)
-        × (length (now list) ≡ 128) × (length (now out) ≡ 128) ⌝ }
+        × (length (now list) ≡ 128) × (length (now out) ≡ 128) × Wide width n p q (now table) ⌝ }
     ensures { λ r. ⌜ (r ≡ rowPairs (edgeOfA size (now (numbers .entry)) (now (links .entry))) n b j start) × (length (now (along .exit)) ≡ 128)
         × (length (now (list .exit)) ≡ 128) × (length (now (out .exit)) ≡ 128) ⌝ }
 {
-    let m = sift(table, p, q, n, list, out);
+    let m = sift(table, p, q, width, n, list, out);
     if m == 0 {
         return start;
     }

@@ -29,7 +29,7 @@ use Rattle.collide.specs.Call.{collideOf}
 use Rattle.frame_encode.proofs.Written.{front, wrote-length}
 use Rattle.frame_decode.specs.Fields.{sizeAt, transformAt, capacityAt, cacheAt}
 use Rattle.frame_decode.specs.Hulls.{linksFrom, planesAt, hullLength, numbersTaken, numbersOf, linksOf, Taken}
-use Rattle.frame_decode.proofs.Takes.{numbers-length, taken-all, taken-none}
+use Rattle.frame_decode.proofs.Takes.{taken-all, taken-length, taken-none}
 use Rattle.frame_call.specs.Requests.{Sized, hullA, hullB, beginsB, callOf}
 
 -- more than 902 numbers: more than 128 vertices or faces
@@ -87,26 +87,26 @@ module _ (s : HullSize) (l : List ℕ) (t : HullSize) (k : List ℕ) (x : Transf
       cases (leb (numberCount t) 902) (λ e. ap (λ m. collideOf s n l t m k x capacity cache) (taken-all f at t (leb-true (numberCount t) 902 e)))
       (λ e. let h = leb-false (numberCount t) 902 e in same-b n (numbersTaken f at t) (numbersOf f at t) (breaks-h1 t _ k h) (breaks-h1 t _ k h))
 
--- how many are taken
-taken-count : {f : List ℕ} {at : ℕ} {s : HullSize} {m m′ : List Float} {r : ℕ} → Taken f at s m r m′ → r ≤ 902
-taken-count {f} {at} {s} taken =
-    let count = taken .count in
+-- n places hold what is taken of the numbers where they hold all of them, or where these are too many to be taken
+pub room-holds : (f : List ℕ) (at : ℕ) (s : HullSize) {n : ℕ} → (numberCount s ≤ 902 → numberCount s ≤ n) → length (numbersTaken f at s) ≤ n
+room-holds f at s fits =
     cases (leb (numberCount s) 902)
-    (λ e. let l = leb-true (numberCount s) 902 e in let long = ap length (taken-all f at s l) ∙ numbers-length f at s in omega arith)
+    (λ e. let most = leb-true (numberCount s) 902 e in let long = taken-length f at s most in let room = fits most in omega arith)
     (λ e. let none = ap length (taken-none f at s (leb-false (numberCount s) 902 e)) in omega arith)
 
-pub taken-inside : {f : List ℕ} {at : ℕ} {s : HullSize} {m m′ : List Float} {r : ℕ} → Taken f at s m r m′ → length m ≡ 902 → r ≤ length m′
-taken-inside taken long = let most = taken-count taken in let same = wrote-length (taken .numbers) in omega arith
+-- the numbers went into a room that holds what is taken of them
+module _ {f : List ℕ} {at : ℕ} {s : HullSize} {m m′ : List Float} {r : ℕ} (taken : Taken f at s m r m′) (room : length (numbersTaken f at s) ≤ length m) where
+  pub taken-inside : r ≤ length m′
+  taken-inside = let count = taken .count in let same = wrote-length (taken .numbers) in omega arith
 
--- those that were taken stand first
-pub taken-first : {f : List ℕ} {at : ℕ} {s : HullSize} {m m′ : List Float} {r : ℕ} → Taken f at s m r m′ → length m ≡ 902 → take r m′ ≡ numbersTaken f at s
-taken-first {f} {at} {s} {m} {m′} {r} taken long =
-    let most : r ≤ 902 = taken-count taken in
-    let count = taken .count in
-    ap (take r) (front (taken .numbers) (omega arith)) ∙ take-at (numbersTaken f at s) (drop (length (numbersTaken f at s)) m) r (sym (taken .count))
+  -- those that were taken stand first
+  pub taken-first : take r m′ ≡ numbersTaken f at s
+  taken-first =
+      ap (take r) (front (taken .numbers) room)
+      ∙ take-at (numbersTaken f at s) (drop (length (numbersTaken f at s)) m) r (sym (taken .count))
 
-pub taken-long : {f : List ℕ} {at : ℕ} {s : HullSize} {m m′ : List Float} {r : ℕ} → Taken f at s m r m′ → length m ≡ 902 → r ≡ length (take r m′)
-taken-long taken long = taken .count ∙ sym (ap length (taken-first taken long))
+  pub taken-long : r ≡ length (take r m′)
+  taken-long = taken .count ∙ sym (ap length taken-first)
 
 -- the links where they stand in the frame
 pub links-at : (f : List ℕ) (at : ℕ) (s : HullSize) {from to : ℕ} → from ≡ linksFrom s at → to ≡ planesAt s at

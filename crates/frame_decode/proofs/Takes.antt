@@ -28,6 +28,9 @@ module _ (f : List ℕ) (at : ℕ) (s : HullSize) where
   unfolding numbersTaken
   taken-all h = rw (le-leb (numberCount s) 902 h)
 
+  pub taken-length : numberCount s ≤ 902 → length (numbersTaken f at s) ≡ numberCount s
+  taken-length h = ap length (taken-all h) ∙ numbers-length
+
   pub takes-none : (m : List Float) → 902 < numberCount s → Taken f at s m 0 m
   takes-none m h = record { count = sym (ap length (taken-none h)); numbers = wrote-same none (sym (taken-none h)) }
 
@@ -40,6 +43,6 @@ module _ (f : List ℕ) (at : ℕ) (s : HullSize) where
       ap (λ n. floatsAt f (at + 6) n ++ floatsAt f behind (4 * s .faces)) eb
       ∙ ap (λ p. floatsAt f (at + 6) (planesFrom s) ++ floatsAt f p (4 * s .faces)) ea in
       record {
-        count = ap (λ n. n + 4 * s .faces) eb ∙ sym (ap length (taken-all h) ∙ numbers-length);
+        count = ap (λ n. n + 4 * s .faces) eb ∙ sym (taken-length h);
         numbers = wrote-same (then first second (sym (zero-add _ ∙ table-length (λ i. floatAt f (at + 6 + 4 * i)) before))) (whole ∙ sym (taken-all h));
       }

@@ -5,7 +5,7 @@ ghost use lib.ListN.{length};
 ghost use Rattle.hull_links.specs.Links.{linkCount};
 ghost use Rattle.frame_encode.specs.Written.{Wrote};
 ghost use Rattle.frame_decode.specs.Fields.{floatsAt};
-ghost use Rattle.frame_decode.specs.Hulls.{Sent, linksFrom, planesAt, hullLength, Taken};
+ghost use Rattle.frame_decode.specs.Hulls.{Sent, linksFrom, planesAt, hullLength, numbersTaken, Taken};
 use crate::float_at;
 use hull_links::HullSize;
 use hull_links::planes_from;
@@ -51,9 +51,10 @@ fn take_floats(frame: &[u8], at: usize, n: usize, numbers: &mut [f32], from: usi
     }
 }
 
-// The numbers of the hull that begins at `at`, from the first place on, and how many were taken: none where they are more than any accepted hull has.
+// The numbers of the hull that begins at `at`, from the first place on, and how many were taken: none where they are more than any accepted hull has. The
+// list that is lent has room for those that are taken, and need have no more.
 pub fn take_numbers(frame: &[u8], at: usize, s: HullSize, numbers: &mut [f32]) -> usize
-    requires { ⌜ Sent s × (at + hullLength s ≤ length (now frame)) × (length (now numbers) ≡ 902) ⌝ }
+    requires { ⌜ Sent s × (at + hullLength s ≤ length (now frame)) × (length (numbersTaken (now frame) at s) ≤ length (now numbers)) ⌝ }
     ensures { λ r. ⌜ Taken (now (frame .entry)) at s (now (numbers .entry)) r (now (numbers .exit)) ⌝ }
 {
     let before = planes_from(s);

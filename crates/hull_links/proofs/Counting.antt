@@ -125,7 +125,7 @@ pub at-most : (l : List ℕ) (n : ℕ) → ((e : ℕ) → n ≤ e → count e l 
 at-most l n h t = omega (arith, length-sum l n h, sum-at-most (λ e. count e l) n (λ e q. t e))
 
 -- ---- what stands in lists put together
-has-append : (e : ℕ) (a b : List ℕ) → has e (a ++ b) ≡ (has e a || has e b)
+pub has-append : (e : ℕ) (a b : List ℕ) → has e (a ++ b) ≡ (has e a || has e b)
 unfolding has
 has-append e [] b = refl
 has-append e (x ∷ a) b = cases (eqb x e) (λ t. rw t) (λ t. rw t (has-append e a b))

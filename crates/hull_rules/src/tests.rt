@@ -6,7 +6,6 @@ ghost use lib.ListN.{length};
 ghost use Rattle.hull_links.specs.Tests.{all};
 ghost use Rattle.hull_links.specs.Links.{LinksFit};
 ghost use Rattle.hull_links.specs.Rules.{edgeInRange, twinsAt, linkedAt, h2, h3, h4, h5};
-ghost use Rattle.hull_rules.specs.inner.Marks.{clear};
 ghost use Rattle.hull_rules.specs.inner.Named.{storedInRange, brokenBeforeWalks};
 use hull_links::HullSize;
 
@@ -132,27 +131,20 @@ fn links_right(links: &[u8], size: HullSize) -> bool
     true
 }
 
-// No half-edge is marked.
-fn no_marks() -> [u8; 256]
-    ensures { λ r. ⌜ r ≡ clear ⌝ }
-{
-    [0u8; 256]
-}
-
 // H5.
 fn nexts_right(links: &[u8], size: HullSize) -> bool
     requires { ⌜ LinksFit size (now links) × (h2 size (now links) ≡ true) ⌝ }
     ensures { λ r. ⌜ r ≡ h5 size (now (links .entry)) ⌝ }
 {
     let n = size.half_edges;
-    let mut marks = no_marks();
+    let mut marks = hull_marks::no_marks();
     let mut i = 0;
     while i < n {
         let t = hull_links::next_of(links, size, i);
-        if marks[t] == 1 {
+        if hull_marks::is_marked(&marks, t) {
             return false;
         }
-        marks[t] = 1;
+        hull_marks::set_mark(&mut marks, t);
         i += 1;
     }
     true

@@ -37,18 +37,21 @@ pub fn embed_index_w(value: FloatW, base: u32) -> FloatW
     }
 }
 
-// The least of two: the first where it is at most the second.
+// The least of two: the first where it is at most the second. Of finite numbers that is where the second is not strictly below it, and that test is
+// one instruction for four lanes.
 pub fn least(a: f32, b: f32) -> f32
+    requires { ⌜ T (finite a) × T (finite b) ⌝ }
     ensures { λ r. ⌜ r ≡ leastOf a b ⌝ }
 {
-    if a <= b {
-        return a;
+    if b < a {
+        return b;
     }
-    b
+    a
 }
 
 // The least of each lane.
 pub fn min_w(a: FloatW, b: FloatW) -> FloatW
+    requires { ⌜ FiniteW a × FiniteW b ⌝ }
     ensures { λ r. ⌜ r ≡ leastWOf a b ⌝ }
 {
     FloatW {

@@ -195,6 +195,7 @@ pub extern "C" fn probe_embed_index_w(value: FloatW, base: u32) -> FloatW
 
 #[no_mangle]
 pub extern "C" fn probe_min_w(a: FloatW, b: FloatW) -> FloatW
+    requires { ⌜ FiniteW a × FiniteW b ⌝ }
     ensures { λ r. ⌜ r ≡ leastWOf a b ⌝ }
 {
     lanes::min_w(a, b)

@@ -1,18 +1,21 @@
 /* The header held to the library: every size and offset as a number, and the stored frames through the header's records.
    A frame of kind 12 is taken apart into records, called, and its answer put together again from the outcome's fields: a
    field that stood elsewhere in the library would show in some answer. The answers stored beside the frames are the Rust's.
-   Calls run on a thread whose stack is painted, so that what they need of it is seen.
+   Each call is made twice: on a thread whose stack is large and painted, so that what the call needs of it is seen, and on
+   one that has the stack that the header states, one page more and below that nothing that may be touched.
 
-       frames FRAMES ANSWERS
+       frames WHAT FRAMES ANSWERS [WHAT FRAMES ANSWERS]..
 
-   It compiles as C and as C++. */
-#define _POSIX_C_SOURCE 200809L
+   WHAT says in a word or two whose frames these are. It compiles as C and as C++. */
+#define _DEFAULT_SOURCE
 #include "../contact.h"
 
 #include <pthread.h>
 #include <stdio.h>
 #include <stdlib.h>
+#include <sys/mman.h>
 #include <sys/types.h>
+#include <unistd.h>
 
 #ifdef __cplusplus
 #define HOLDS(fact) static_assert(fact, #fact)
@@ -230,22 +233,41 @@ static void *answer_frame(void *unused) {
     return unused;
 }
 
-static size_t touched(void *(*work)(void *)) {
-    enum { SIZE = 1 << 18, PAINT = 0xa5 };
-    static uint8_t *stack;
+enum { PAINT = 0xa5, LARGE_STACK = 1 << 18 };
+
+/* A painted stack of so many bytes, in whole pages, and below it a page that ends the program where it is touched. */
+typedef struct {
+    uint8_t *low;
+    size_t size;
+} stack;
+
+static stack large_stack, collide_stack, answer_stack;
+
+static stack stack_of(size_t size) {
+    const size_t page = (size_t)sysconf(_SC_PAGESIZE);
+    stack made;
+    uint8_t *all;
+    made.size = (size + page - 1) / page * page;
+    all = (uint8_t *)mmap(NULL, page + made.size, PROT_READ | PROT_WRITE, MAP_PRIVATE | MAP_ANONYMOUS, -1, 0);
+    if (all == MAP_FAILED || mprotect(all, page, PROT_NONE)) stop("no stack could be made", 0);
+    made.low = all + page;
+    return made;
+}
+
+/* How many bytes of the stack were touched, by the thread itself too. */
+static size_t touched(const stack *on, void *(*work)(void *)) {
     pthread_attr_t attributes;
     pthread_t thread;
     size_t low = 0;
-    if (!stack) stack = (uint8_t *)aligned_alloc(4096, SIZE);
-    memset(stack, PAINT, SIZE);
+    memset(on->low, PAINT, on->size);
     pthread_attr_init(&attributes);
-    if (pthread_attr_setstack(&attributes, stack, SIZE) || pthread_create(&thread, &attributes, work, NULL)) {
+    if (pthread_attr_setstack(&attributes, on->low, on->size) || pthread_create(&thread, &attributes, work, NULL)) {
         stop("no thread could be made", 0);
     }
     pthread_join(thread, NULL);
     pthread_attr_destroy(&attributes);
-    while (stack[low] == PAINT) low++;
-    return SIZE - low;
+    while (low < on->size && on->low[low] == PAINT) low++;
+    return on->size - low;
 }
 
 static int all_are(const uint8_t *bytes, size_t count, uint8_t byte) {
@@ -259,12 +281,19 @@ static struct {
     long calls, points[CONTACT_MAX_POINTS + 1], statuses[9], rules[9], others;
     long retired_marked, retired_refused, retired_small; /* by what came of a retired type; small: a capacity below 4 */
     long edge_points, places_in_order, places_not_in_order; /* contacts by their places */
+    long next[2][256]; /* accepted calls by the next cache: hit, kind */
     size_t collide_stack, judge_stack, answer_stack;
 } met;
+static long points_met[CONTACT_MAX_POINTS + 1]; /* contacts of all files */
 static size_t thread_itself;
 
-static void deeper(size_t *most, size_t depth) {
+/* Told where it is first seen, on the large stack: the one that is stated would end the program. */
+static void deeper(size_t *most, size_t depth, size_t limit, long line) {
     if (depth - thread_itself > *most) *most = depth - thread_itself;
+    if (*most > limit) {
+        printf("  a call needs %zu bytes of stack, and %zu are stated\n", *most, limit);
+        stop("more stack than is stated", line);
+    }
 }
 
 /* An accepted call with a capacity of 4 or more is marked where it read a retired kind, and no other. */
@@ -297,12 +326,15 @@ static void hold_places(const contact_manifold *contact, uint8_t next_kind, long
     else met.places_not_in_order++;
 }
 
-/* Both ways to answer the frame, held to its answer, with `untouched` in all that is not to be written. */
-static void hold(const uint8_t *wanted, size_t wanted_len, uint8_t untouched, long line) {
+/* Both ways to answer the frame, held to its answer, with `untouched` in all that is not to be written; on large stacks or
+   on those that the header states. */
+static void hold(const uint8_t *wanted, size_t wanted_len, uint8_t untouched, int large, long line) {
+    const stack *to_collide = large ? &large_stack : &collide_stack;
+    const stack *to_answer = large ? &large_stack : &answer_stack;
     memset(&came, untouched, sizeof came);
     if (contact_answer(frame, frame_len, came.answer, sizeof came.answer - 1) != 0) stop("an answer in too few places", line);
     if (!all_are(came.answer, sizeof came.answer, untouched)) stop("a byte written to too few places", line);
-    deeper(&met.answer_stack, touched(answer_frame));
+    deeper(&met.answer_stack, touched(to_answer, answer_frame), CONTACT_ANSWER_STACK, line);
     if (answered != wanted_len || memcmp(came.answer, wanted, wanted_len)) stop("contact_answer differs", line);
     if (!all_are(came.answer + answered, sizeof came.answer - answered, untouched)) stop("a byte behind the answer", line);
     if (!all_are(came.behind_answer, WATCHED, untouched)) stop("a byte behind the list", line);
@@ -312,8 +344,8 @@ static void hold(const uint8_t *wanted, size_t wanted_len, uint8_t untouched, lo
     }
     if (!call_taken()) return;
     came.cache = cache_given;
-    deeper(&met.collide_stack, touched(collide));
-    deeper(&met.judge_stack, touched(judge));
+    deeper(&met.collide_stack, touched(to_collide, collide), CONTACT_COLLIDE_STACK, line);
+    deeper(&met.judge_stack, touched(to_collide, judge), CONTACT_COLLIDE_STACK, line);
     contact_outcome outcome;
     memcpy(&outcome, came.outcome, sizeof outcome);
     put_answer(&outcome, came.cache);
@@ -331,6 +363,7 @@ static void hold(const uint8_t *wanted, size_t wanted_len, uint8_t untouched, lo
     met.statuses[outcome.status]++;
     met.rules[rule_a]++;
     met.rules[rule_b]++;
+    if (outcome.status == CONTACT_ACCEPTED && capacity >= CONTACT_MAX_POINTS) met.next[came.cache.hit & 1][came.cache.kind]++;
 }
 
 /* ---- the files */
@@ -356,36 +389,31 @@ static int line_taken(FILE *from, uint8_t *to, size_t room, long *count) {
 
 static void most_stack(const char *what, size_t most, size_t limit) {
     printf("  stack of %s: %zu bytes of %zu\n", what, most, limit);
-    if (most > limit) stop("more stack than is stated", 0);
 }
 
-int main(int count, char **words) {
+/* The frames of one file; every refusal, rule and kind of axis is to be met among them. */
+static void hold_file(const char *what, const char *frames_name, const char *answers_name) {
     static uint8_t wanted[CONTACT_LONGEST_ANSWER];
     long frame_bytes, wanted_bytes;
     long number = 0;
     int i;
-    FILE *frames = count == 3 ? fopen(words[1], "r") : NULL;
-    FILE *answers = count == 3 ? fopen(words[2], "r") : NULL;
+    FILE *frames = fopen(frames_name, "r"), *answers = fopen(answers_name, "r");
     if (!frames || !answers) {
-        printf("usage: frames FRAMES ANSWERS\n");
-        return 2;
+        printf("FAILED: %s or %s cannot be read\n", frames_name, answers_name);
+        exit(1);
     }
-    if (contact_abi() != CONTACT_ABI) stop("the library has another ABI than the header", 0);
-    for (i = 0; i <= UINT8_MAX; i++) {
-        int given = i <= CONTACT_CUT_FULL || i == CONTACT_OWNER;
-        if ((contact_status_text((uint8_t)i) != NULL) != given) stop("words for a number that is never given, or none for one that is", 0);
-        if ((contact_status_remedy((uint8_t)i) != NULL) != given) stop("a remedy for a number that is never given, or none for one that is", 0);
-    }
-    thread_itself = touched(nothing);
+    memset(&met, 0, sizeof met);
     while (line_taken(frames, frame, sizeof frame, &frame_bytes)) {
         number++;
         if (!line_taken(answers, wanted, sizeof wanted, &wanted_bytes) || wanted_bytes < 0) stop("has no answer", number);
         if (frame_bytes < 0) continue;
         frame_len = (size_t)frame_bytes;
-        hold(wanted, (size_t)wanted_bytes, 0x5a, number);
-        hold(wanted, (size_t)wanted_bytes, 0xc3, number);
+        hold(wanted, (size_t)wanted_bytes, 0x5a, 1, number);
+        hold(wanted, (size_t)wanted_bytes, 0xc3, 0, number);
     }
-    printf("  %ld calls through the header's records and %ld other frames, twice each;", met.calls / 2, met.others / 2);
+    fclose(frames);
+    fclose(answers);
+    printf("  %s: %ld calls through the header's records and %ld other frames, twice each;", what, met.calls / 2, met.others / 2);
     printf(" points 0 to 4:");
     for (i = 0; i <= CONTACT_MAX_POINTS; i++) printf(" %ld", met.points[i] / 2);
     printf("; refusals 0 to 6:");
@@ -396,19 +424,46 @@ int main(int count, char **words) {
         met.retired_small / 2);
     printf("; places in order %ld, not in order %ld, of edge points %ld\n", met.places_in_order / 2, met.places_not_in_order / 2,
         met.edge_points / 2);
+    printf("  next caches of kinds 2, 3 and 4 with hit 1: %ld %ld %ld, with hit 0: %ld %ld %ld\n", met.next[1][2] / 2, met.next[1][3] / 2,
+        met.next[1][4] / 2, met.next[0][2] / 2, met.next[0][3] / 2, met.next[0][4] / 2);
     most_stack("contact_collide", met.collide_stack, CONTACT_COLLIDE_STACK);
     most_stack("contact_first_broken_rule", met.judge_stack, CONTACT_COLLIDE_STACK);
     most_stack("contact_answer", met.answer_stack, CONTACT_ANSWER_STACK);
-    for (i = 0; i <= CONTACT_MAX_POINTS; i++) {
-        if (!met.points[i]) stop("a number of points was never met", number);
-    }
+    for (i = 0; i <= CONTACT_MAX_POINTS; i++) points_met[i] += met.points[i];
     for (i = 0; i <= 6; i++) {
         if (!met.statuses[i]) stop("a refusal was never met", number);
     }
     for (i = 0; i <= 8; i++) {
         if (!met.rules[i]) stop("a rule was never met", number);
     }
+    for (i = 2; i <= 4; i++) {
+        if (!met.next[0][i] || !met.next[1][i]) stop("a kind of axis was never found, or never served again", number);
+    }
     if (!met.places_in_order || !met.places_not_in_order || !met.edge_points) stop("a way of the places was never met", number);
     if (!met.retired_marked || !met.retired_refused || !met.retired_small) stop("a way of a retired kind was never met", number);
+}
+
+int main(int count, char **words) {
+    const size_t page = (size_t)sysconf(_SC_PAGESIZE);
+    int i;
+    if (count < 4 || count % 3 != 1) {
+        printf("usage: frames WHAT FRAMES ANSWERS [WHAT FRAMES ANSWERS]..\n");
+        return 2;
+    }
+    if (contact_abi() != CONTACT_ABI) stop("the library has another ABI than the header", 0);
+    for (i = 0; i <= UINT8_MAX; i++) {
+        int given = i <= CONTACT_CUT_FULL || i == CONTACT_OWNER;
+        if ((contact_status_text((uint8_t)i) != NULL) != given) stop("words for a number that is never given, or none for one that is", 0);
+        if ((contact_status_remedy((uint8_t)i) != NULL) != given) stop("a remedy for a number that is never given, or none for one that is", 0);
+    }
+    large_stack = stack_of(LARGE_STACK);
+    collide_stack = stack_of(CONTACT_COLLIDE_STACK + page);
+    answer_stack = stack_of(CONTACT_ANSWER_STACK + page);
+    thread_itself = touched(&large_stack, nothing);
+    for (i = 1; i < count; i += 3) hold_file(words[i], words[i + 1], words[i + 2]);
+    for (i = 0; i <= CONTACT_MAX_POINTS; i++) {
+        if (!points_met[i]) stop("a number of points was never met", 0);
+    }
+    printf("  all of it also on threads of %zu and %zu bytes of stack: what is stated and one page\n", collide_stack.size, answer_stack.size);
     return 0;
 }

@@ -13,7 +13,7 @@
 //! - Units: metres. Everything that comes out is in A's frame, the normal from A to B; a separation is below zero where the
 //!   hulls overlap.
 //! - Threads: the library has no state and allocates nothing; any number of threads may call it.
-//! - Stack: a call needs up to 80 KB of its thread's stack, [`answer`] 88 KB.
+//! - Stack: a call needs at most 24 KB of its thread's stack, [`answer`] 32 KB, beside what the thread needs itself.
 //! - Floating point: the default environment, round to nearest, no flush to zero, no denormals as zero. Nothing tests it,
 //!   and with another one the answers are others.
 //! - Platform: x86-64 Linux. The library is looked for in the repository's target/staticlib, or in the folder that the

@@ -8,6 +8,8 @@ pub mod faults;
 pub mod fuzz;
 pub mod held;
 pub mod hex;
+#[cfg(rust_text)]
+pub mod largest;
 pub mod library;
 pub mod mix;
 pub mod program;

@@ -9,7 +9,7 @@ use cases::sorts::{acceptable, SORTS};
 use cases::Numbers;
 
 mod broken;
-mod calls;
+pub(crate) mod calls;
 mod lengths;
 mod lines;
 pub mod marked;

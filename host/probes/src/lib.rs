@@ -183,7 +183,9 @@ pub fn embed_index_w(value: FloatW, base: u32) -> FloatW {
     unsafe { linked::probe_embed_index_w(value, base) }
 }
 
+/// Panics where a lane is not finite.
 pub fn min_w(a: FloatW, b: FloatW) -> FloatW {
+    assert!(finite(a) && finite(b));
     unsafe { linked::probe_min_w(a, b) }
 }
 

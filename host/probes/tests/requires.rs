@@ -86,6 +86,11 @@ fn lanes_are_finite_and_numbers_below_128() {
     breaks("128", || embed_index_w(lanes(1.0), 125));
     breaks("infinite", || embed_index_w(lanes(f32::INFINITY), 0));
     breaks("NaN", || embed_index_w(lanes(f32::NAN), 0));
+    keeps("finite", || min_w(lanes(1.0), lanes(2.0)));
+    breaks("NaN first", || min_w(lanes(f32::NAN), lanes(2.0)));
+    breaks("infinite second", || {
+        min_w(lanes(1.0), lanes(f32::INFINITY))
+    });
     keeps("finite", || min_index_w(lanes(1.0)));
     breaks("NaN", || min_index_w(lanes(f32::NAN)));
 }

@@ -9,15 +9,15 @@ use Rattle.axis_pairs.proofs.fill_table.Statement.{statement}
 use Rattle.axis_pairs.proofs.fill_table.Tie as tie
 
 abbrev Inv-loop : tie.InvT-loop
-Inv-loop normals faces directions n table₀ f₀ at₀ table f at = (f ≤ faces) × Filling normals (vectorIn directions) n table₀ f at table
+Inv-loop normals faces directions width table₀ f₀ at₀ table f at = (f ≤ faces) × Filling normals (vectorIn directions) width table₀ f at table
 
 abbrev μ-loop : tie.MeasureT-loop
-μ-loop normals faces directions n table₀ f₀ at₀ table f at = faces - f
+μ-loop normals faces directions width table₀ f₀ at₀ table f at = faces - f
 
-fits : (c : tie.In-loop Inv-loop μ-loop) → c .before .loop .at + c .before .before .before .before .before .args .n ≤ length (c .before .loop .table)
+fits : (c : tie.In-loop Inv-loop μ-loop) → c .before .loop .at + c .before .before .before .before .before .args .width ≤ length (c .before .loop .table)
 fits c = let s = c .before .before .before .before .before in
     let l = c .before .loop in
-    room (s .args .normals .now) (s .args .directions .now) (s .args .n) _ (s .args .faces) (l .f) (l .at) (l .table) (l .inv .1)
+    room (s .args .normals .now) (s .args .directions .now) (s .args .width) _ (s .args .faces) (l .f) (l .at) (l .table) (l .inv .1)
     (c .loop-test .taken) (s .pre .4)
 
 loop-holds : tie.Need-loop-holds Inv-loop μ-loop
@@ -45,7 +45,7 @@ add-at c = let s = c .before .before .before .before .before .before .before .be
       arith,
       c .before .before .before .before .before .loop-test .taken,
       c .before .before .before .before .before .before .loop .inv .1 .place,
-      mul-le-mul (le-of-lt (c .before .before .before .before .before .loop-test .taken)) (le-refl (s .args .n)),
+      mul-le-mul (le-of-lt (c .before .before .before .before .before .loop-test .taken)) (le-refl (s .args .width)),
       mul-le-mul (s .pre .0) (s .pre .1),
       s .pre .0,
       s .pre .1,
@@ -58,7 +58,7 @@ loop-again : tie.Need-loop-again Inv-loop μ-loop
 loop-again c = let s = c .before .before .before .before .before .before .before .before .before .before in
     let l = c .before .before .before .before .before .before .loop in (
       omega (arith, c .before .before .before .before .before .loop-test .taken),
-      goes-on (s .args .normals .now) (s .args .directions .now) (s .args .n) _ (s .args .faces) (l .f) (l .at) (l .table) (l .inv .1)
+      goes-on (s .args .normals .now) (s .args .directions .now) (s .args .width) _ (s .args .faces) (l .f) (l .at) (l .table) (l .inv .1)
           (c .before .before .before .before .vector-in .result) _ (c .before .before .before .before .vector-in .ensures)
           (fits (c .before .before .before .before .before)) (c .before .before .fill-row .ensures),
     )
@@ -69,7 +69,7 @@ same-length c = c .before .loop .inv .1 .long
 returns : tie.Need-returns Inv-loop μ-loop
 returns c = let s = c .before .before .before .before .before in
     let l = c .before .loop in
-    ends (s .args .normals .now) (s .args .directions .now) (s .args .n) _ (s .args .faces) (l .f) (l .at) (l .table) (l .inv .1) (l .inv .0)
+    ends (s .args .normals .now) (s .args .directions .now) (s .args .width) _ (s .args .faces) (l .f) (l .at) (l .table) (l .inv .1) (l .inv .0)
     (c .loop-test .left)
 
 pub fill-table-spec : {M : Type 1} → statement M

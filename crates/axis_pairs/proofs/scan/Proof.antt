@@ -1,25 +1,36 @@
--- The rows that were filled are the rows that the scan asks for, along the edges of A.
-use Rattle.axis_pairs.proofs.Tables.{table-same}
+-- The table holds every row where `fill_whole` says so.
 use native.Mathlib.Omega.{arith}
+use mathlib.Core.Path.{sym}
 use Rattle.axis_pairs.proofs.scan.Statement.{statement}
 use Rattle.axis_pairs.proofs.scan.Tie as tie
 
-fill-table-requires : tie.Need-fill-table-requires
-fill-table-requires c κs = let s = c .before .before .before .before .before .before .before .before .before in
+width-of-requires : tie.Need-width-of-requires
+width-of-requires c κs = let p = c .before .before .before .before .before .before .before .pre .0 in omega (arith, p .few, p .edges-in .fit .h-high)
+
+empty-table-requires : tie.Need-empty-table-requires
+empty-table-requires c κs = tt
+
+slice-aggregate-fill-whole : tie.Need-slice-aggregate-fill-whole
+slice-aggregate-fill-whole c = c .before .empty-table .ensures
+
+fill-whole-requires : tie.Need-fill-whole-requires
+fill-whole-requires c κs = let s = c .before .before .before .before .before .before .before .before .before .before in
     let p = s .pre .0 in
-    (p .other-in .fit .f-high, omega (arith, p .few, p .edges-in .fit .h-high), p .turned-long, s .pre .1 .long, s .pre .2)
+    (p .other-in .fit .f-high, c .before .before .width-of .ensures .1, p .turned-long, s .pre .1 .long, sym (c .before .empty-table .ensures))
+
+slice-aggregate-scan-rows : tie.Need-slice-aggregate-scan-rows
+slice-aggregate-scan-rows c = sym (c .before .before .fill-whole .ensures .0)
 
 scan-rows-requires : tie.Need-scan-rows-requires
 scan-rows-requires c κs = let s = c .before .before .before .before .before .before .before .before .before .before .before .before .before in
-    let a = s .args in
-    let fill = c .before .before .before .fill-table .ensures in
-    (s .pre .0, table-same (a .turned .now) (a .size-b .faces) _ (a .directions .now) (a .n) _ (s .pre .1) (fill .1), omega (arith, fill .0, s .pre .3))
-
-same-length : tie.Need-same-length
-same-length c = c .before .before .before .before .fill-table .ensures .0
+    let fill = c .before .before .fill-whole .ensures in
+    let width = c .before .before .before .before .before .width-of .ensures in
+    (s .pre .0, s .pre .1, width .0, width .1, fill .0, fill .1)
 
 returns : tie.Need-returns
-returns c = c .scan-rows .ensures
+returns c = c .before .scan-rows .ensures
 
 pub scan-spec : {M : Type 1} → statement M
-scan-spec = tie.close (tie.spec fill-table-requires scan-rows-requires same-length returns)
+scan-spec =
+    tie.close
+    (tie.spec width-of-requires empty-table-requires slice-aggregate-fill-whole fill-whole-requires slice-aggregate-scan-rows scan-rows-requires returns)

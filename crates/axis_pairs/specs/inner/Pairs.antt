@@ -25,9 +25,14 @@ edgeIn turned points s l j =
       vertex = from;
     }
 
--- every normal along every direction, n places to a face
+-- every normal along every direction, in rows of n places
 pub record Table (turned : List Float) (faces : ℕ) (g : ℕ → Vec3) (n : ℕ) (table : List Float) : Type 0 where
   pub row : (f : ℕ) → f < faces → Row (vectorIn turned f) g n (f * n) table
+
+-- both normals of edge b of B along every direction, from the places p and q on
+pub record BothRows (b : EdgeB) (g : ℕ → Vec3) (n p q : ℕ) (table : List Float) : Type 0 where
+  pub row0 : Row (b .normal0) g n p table
+  pub row1 : Row (b .normal1) g n q table
 
 -- what the scan of all edges of B asks for: of hull A, of the lists, and of hull B's links
 pub record ScanReady (s : HullSize) (n : List Float) (l : List ℕ) (count : ℕ) (normals turned points : List Float) (t : HullSize) (k : List ℕ)

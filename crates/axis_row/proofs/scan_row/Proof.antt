@@ -11,7 +11,7 @@ use Rattle.axis_row.proofs.scan_row.Tie as tie
 sift-requires : tie.Need-sift-requires
 sift-requires c κs =
     let p = c .before .before .before .before .before .before .before .before .before .pre in
-    (omega (arith, p .0 .few, p .0 .edges-in .fit .h-high), p .0 .row0 .room, p .0 .row1 .room, p .2, p .3)
+    (p .4, p .2, p .3)
 
 same-length : tie.Need-same-length
 same-length c =

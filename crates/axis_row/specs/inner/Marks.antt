@@ -1,5 +1,5 @@
 -- Inner: how one edge of B is scanned. The numbers of A's edges that pass the first test of signs against it, in their order. Definitions only.
-use Prim.Native.Nat.{ℕ, zero, suc, _+_, _<_}
+use Prim.Native.Nat.{ℕ, zero, suc, _+_, _<_, _≤_}
 use mathlib.Core.Bool.{Bool, cond}
 use mathlib.Core.List.{List, [], _∷_, _++_}
 use mathlib.Core.Path.{_≡_}
@@ -27,6 +27,13 @@ passing fails (i ∷ is) = cond (fails i) (passing fails is) (i ∷ passing fail
 unfoldable pub upTo : ℕ → List ℕ
 upTo zero = []
 upTo (suc n) = upTo n ++ (n ∷ [])
+
+-- two rows of so many places stand in the table from p and from q on, and the first n of each are looked at
+pub record Wide (width n p q : ℕ) (table : List Float) : Type 0 where
+  pub enough : n ≤ width
+  pub few : width ≤ 128
+  pub room0 : p + width ≤ length table
+  pub room1 : q + width ≤ length table
 
 -- what the first pass leaves: for each number below n, 0 where it fails and 1 where it passes; the count says how many pass
 pub record Marked (fails : ℕ → Bool) (n count : ℕ) (marks : List ℕ) : Type 0 where

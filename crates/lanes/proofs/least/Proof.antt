@@ -1,15 +1,14 @@
--- `least`: the test picks the definition's case.
-use Rattle.lanes.specs.Lanes.{leastOf}
+-- `least`: of finite numbers the strict test of the second finds the definition's case.
+use mathlib.Core.Bool.{true, false}
+use Rattle.lanes.proofs.Laws.{least-by}
 use Rattle.lanes.proofs.least.Statement.{statement}
 use Rattle.lanes.proofs.least.Tie as tie
 
 returns : tie.Need-returns
-unfolding leastOf
-returns c = simp (c .if1 .taken)
+returns c = least-by _ _ true (c .before .pre .0) (c .before .pre .1) (c .if1 .taken)
 
 returns-2 : tie.Need-returns-2
-unfolding leastOf
-returns-2 c = simp (c .if1 .left)
+returns-2 c = least-by _ _ false (c .before .pre .0) (c .before .pre .1) (c .if1 .left)
 
 pub least-spec : {M : Type 1} → statement M
 least-spec = tie.close (tie.spec returns returns-2)

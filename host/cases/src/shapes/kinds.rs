@@ -54,14 +54,7 @@ pub const COMPACT: [Kind; 14] = [
     }),
     ("largest sizes", |n| {
         let radius = n.between(0.5, 5.0);
-        match n.below(4) {
-            // V 84, H 252, F 44.
-            0 => frustum(&polygon(42, radius), 1.0, n.between(1.0, 9.0)),
-            // V 64, H 256, F 66.
-            1 => antiprism(32, radius, n.between(1.0, 9.0)),
-            2 => most_faces(radius),
-            _ => most_vertices(radius),
-        }
+        LARGEST[n.below(4)].1(radius, n)
     }),
     ("with a corner alone in a face", |n| {
         let (sides, radius) = (3 + n.below(9), n.between(0.5, 5.0));
@@ -70,6 +63,29 @@ pub const COMPACT: [Kind; 14] = [
     ("two in one record", |n| {
         let apart = [12.0, 0.0, n.between(-5.0, 5.0)];
         any_log(n).joined(&bipyramid(3 + n.below(8), n.between(0.5, 5.0), 1.0).moved(apart))
+    }),
+];
+
+/// A name and a maker of solids of a radius.
+pub type KindOfRadius = (&'static str, fn(f64, &mut Numbers) -> Solid);
+
+/// As many half-edges, faces or vertices as the rules allow, and faces of 64 corners. Of the third, faces times edges are the
+/// most that there are.
+pub const LARGEST: [KindOfRadius; 5] = [
+    ("prisms: V 84, H 252, F 44", |radius, n| {
+        frustum(&polygon(42, radius), 1.0, n.between(1.0, 9.0))
+    }),
+    ("antiprisms: V 64, H 256, F 66", |radius, n| {
+        antiprism(32, radius, n.between(1.0, 9.0))
+    }),
+    ("V 45, H 256, most faces: 85", |radius, _| {
+        most_faces(radius)
+    }),
+    ("most vertices: 128, H 256, F 4", |radius, _| {
+        most_vertices(radius)
+    }),
+    ("pyramids: V 65, H 256, F 65", |radius, n| {
+        pyramid(64, radius, n.between(0.2, 9.0))
     }),
 ];
 

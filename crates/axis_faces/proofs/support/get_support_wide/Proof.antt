@@ -5,7 +5,7 @@ use native.Mathlib.Omega.{arith}
 use Rattle.manifold.specs.Limits.{huge}
 use Rattle.hull_links.specs.Links.{padded}
 use Rattle.axis_faces.specs.Support.{groupOf, splatOf, leastLanes}
-use Rattle.axis_faces.proofs.Lanes.{lanes-finite, support-in, no-group, one-group, all-groups}
+use Rattle.axis_faces.proofs.Lanes.{lanes-finite, group-finite, support-in, no-group, one-group, all-groups}
 use borrow.Author.Needs.{needs}
 use Rattle.axis_faces.proofs.support.get_support_wide.Statement.{statement}
 use Rattle.axis_faces.proofs.support.get_support_wide.Tie as tie
@@ -34,7 +34,12 @@ group-requires : tie.Need-group-requires Inv-loop μ-loop
 group-requires c κs = (c .before .before .before .before .before .pre, omega (arith, c .loop-test .taken))
 
 min-w-requires : tie.Need-min-w-requires Inv-loop μ-loop
-min-w-requires c κs = search needs
+min-w-requires c κs =
+    let l = c .before .before in
+    let p = l .before .before .before .before .pre in (
+      lanes-finite p (l .loop .g) _ (omega (arith, c .before .loop-test .taken)) (l .loop .inv .1),
+      group-finite p (4 * l .loop .g) _ (omega (arith, c .before .loop-test .taken)) (c .group .ensures),
+    )
 
 add-g : tie.Need-add-g Inv-loop μ-loop
 add-g c = omega (arith, c .before .before .before .before .before .before .before .pre .fit .v-high, c .before .before .loop-test .taken)

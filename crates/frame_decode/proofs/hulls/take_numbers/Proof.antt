@@ -1,5 +1,5 @@
 -- None, or the numbers before the links and the planes behind them.
-use Rattle.frame_decode.proofs.Takes.{takes-none, takes-all}
+use Rattle.frame_decode.proofs.Takes.{taken-length, takes-none, takes-all}
 use borrow.Author.Needs.{needs}
 use Rattle.frame_decode.proofs.hulls.take_numbers.Statement.{statement}
 use Rattle.frame_decode.proofs.hulls.take_numbers.Tie as tie
@@ -20,13 +20,15 @@ add-take-floats : tie.Need-add-take-floats
 add-take-floats c = search needs
 
 take-floats-requires : tie.Need-take-floats-requires
-take-floats-requires c κs = search needs
+take-floats-requires c κs = let asked = c .before .before .before .before .before .before .args in
+    let long = taken-length (asked .frame .now) (asked .at) (asked .s) (search needs) in search needs
 
 planes-at-requires : tie.Need-planes-at-requires
 planes-at-requires c κs = search needs
 
 take-floats-requires-2 : tie.Need-take-floats-requires-2
-take-floats-requires-2 c κs = search needs
+take-floats-requires-2 c κs = let asked = c .before .before .before .before .before .before .before .before .before .before .before .args in
+    let long = taken-length (asked .frame .now) (asked .at) (asked .s) (search needs) in search needs
 
 add-result : tie.Need-add-result
 add-result c = search needs

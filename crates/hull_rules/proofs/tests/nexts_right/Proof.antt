@@ -1,5 +1,5 @@
 -- The nexts of the half-edges before the one at hand are marked and differ.
-use mathlib.Core.Path.{_≡_, sym}
+use mathlib.Core.Path.{_≡_, sym, _∙_}
 use mathlib.Core.Bool.{true}
 use Prim.Native.Nat.{_≤_, _-_}
 use native.Mathlib.Omega.{arith}
@@ -9,13 +9,13 @@ use Rattle.hull_links.specs.Walks.{firsts}
 use Rattle.hull_links.specs.Links.{next}
 use Rattle.hull_links.specs.Rules.{newNext, h5}
 use Rattle.hull_links.proofs.Tests.{all-none, all-more, all-done, all-fails}
-use Rattle.hull_rules.specs.inner.Marks.{marked, clear}
-use Rattle.hull_rules.proofs.Marks.{none-marked, one-marked, next-small, not-new, is-new}
+use Rattle.hull_marks.specs.inner.Marks.{Marks}
+use Rattle.hull_rules.proofs.Marks.{next-small, nexts-none, nexts-more, not-new, is-new}
 use Rattle.hull_rules.proofs.tests.nexts_right.Statement.{statement}
 use Rattle.hull_rules.proofs.tests.nexts_right.Tie as tie
 
 abbrev Inv-loop : tie.InvT-loop
-Inv-loop links size n marks₀ i₀ marks i = (i ≤ n) × (all (newNext size links) i ≡ true) × (marks ≡ marked (firsts (next size links) i) clear)
+Inv-loop links size n marks₀ i₀ marks i = (i ≤ n) × (all (newNext size links) i ≡ true) × Marks marks (firsts (next size links) i)
 
 abbrev μ-loop : tie.MeasureT-loop
 μ-loop links size n marks₀ i₀ marks i = n - i
@@ -24,28 +24,26 @@ no-marks-requires : tie.Need-no-marks-requires Inv-loop μ-loop
 no-marks-requires c κs = search needs
 
 loop-holds : tie.Need-loop-holds Inv-loop μ-loop
-loop-holds c = (search needs, all-none _, none-marked _ _ (c .no-marks .ensures))
+loop-holds c = (search needs, all-none _, nexts-none _ _ (c .no-marks .ensures))
 
 next-of-requires : tie.Need-next-of-requires Inv-loop μ-loop
 next-of-requires c κs = search needs
 
-array-read-if1 : tie.Need-array-read-if1 Inv-loop μ-loop
-array-read-if1 c = let p = c .before .before .before .before .before .pre in
-    next-small _ _ _ _ (p .0) (p .1) (c .before .loop-test .taken) (c .next-of .ensures)
+is-marked-requires : tie.Need-is-marked-requires Inv-loop μ-loop
+is-marked-requires c κs = let n = c .before in
+    let p = n .before .before .before .before .before .pre in
+    omega (arith, next-small _ _ _ _ (p .0) (p .1) (n .before .loop-test .taken) (n .next-of .ensures))
 
 returns : tie.Need-returns Inv-loop μ-loop
 unfolding h5
-returns c = let n = c .before in
-    let l = n .before .before in
-    let p = l .before .before .before .pre in
+returns c = let n = c .before .before .before in
     sym (all-fails _ _ _ (n .before .loop-test .taken)
-    (not-new _ _ _ _ _ (n .next-of .ensures) (next-small _ _ _ _ (p .0) (p .1) (n .before .loop-test .taken) (n .next-of .ensures))
-    (l .loop .inv .2) (c .if1 .taken)))
+    (not-new _ _ _ _ _ (n .next-of .ensures) (n .before .before .loop .inv .2) (sym (c .before .is-marked .ensures) ∙ c .if1 .taken)))
 
-array-write-marks : tie.Need-array-write-marks Inv-loop μ-loop
-array-write-marks c = let n = c .before in
+set-mark-requires : tie.Need-set-mark-requires Inv-loop μ-loop
+set-mark-requires c κs = let n = c .before .before .before .before in
     let p = n .before .before .before .before .before .pre in
-    next-small _ _ _ _ (p .0) (p .1) (n .before .loop-test .taken) (n .next-of .ensures)
+    omega (arith, next-small _ _ _ _ (p .0) (p .1) (n .before .loop-test .taken) (n .next-of .ensures))
 
 add-i : tie.Need-add-i Inv-loop μ-loop
 add-i c = omega arith
@@ -54,14 +52,15 @@ loop-less : tie.Need-loop-less Inv-loop μ-loop
 loop-less c = omega arith
 
 loop-again : tie.Need-loop-again Inv-loop μ-loop
-loop-again c = let n = c .before in
+loop-again c = let tested = c .before .before in
+    let n = tested .before .before .before in
     let l = n .before .before in
     let p = l .before .before .before .pre in (
       omega arith,
       all-more _ _ (l .loop .inv .1)
-          (is-new _ _ _ _ _ (n .next-of .ensures) (next-small _ _ _ _ (p .0) (p .1) (n .before .loop-test .taken) (n .next-of .ensures))
-          (l .loop .inv .2) (c .if1 .left)),
-      one-marked _ _ _ _ (l .loop .inv .2) (n .next-of .ensures),
+          (is-new _ _ _ _ _ (n .next-of .ensures) (l .loop .inv .2) (sym (tested .before .is-marked .ensures) ∙ tested .if1 .left)),
+      nexts-more _ _ _ _ _ (next-small _ _ _ _ (p .0) (p .1) (n .before .loop-test .taken) (n .next-of .ensures)) (n .next-of .ensures)
+          (l .loop .inv .2) (c .set-mark .ensures),
     )
 
 returns-2 : tie.Need-returns-2 Inv-loop μ-loop
@@ -77,9 +76,9 @@ nexts-right-spec =
     no-marks-requires
     loop-holds
     next-of-requires
-    array-read-if1
+    is-marked-requires
     returns
-    array-write-marks
+    set-mark-requires
     add-i
     loop-less
     loop-again

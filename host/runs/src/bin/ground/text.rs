@@ -62,11 +62,7 @@ pub fn lanes(n: &mut Numbers, count: u64) -> Tally {
             });
         }
 
-        let mut any = || {
-            let (x, y, z, w) = (n.float(), n.float(), n.float(), n.float());
-            FloatW { x, y, z, w }
-        };
-        let (a, b) = (any(), any());
+        let (a, b) = (finite(n), finite(n));
         let theirs = open::min_w(read(a), read(b));
         hold(&mut t, "min_w", &(a, b), probes::min_w(a, b), theirs);
     }
