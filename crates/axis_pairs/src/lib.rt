@@ -4,6 +4,7 @@
 ghost use mathlib.Core.Bool.{true};
 ghost use mathlib.Core.Path.{_≡_};
 ghost use Prim.Native.Nat.{_+_, _*_, _/_, _<_, _≤_};
+ghost use lib.Dec.{leb};
 ghost use lib.ListN.{length};
 ghost use Rattle.hull_links.specs.Links.{NumbersFit};
 ghost use Rattle.axis_edges.specs.Edges.{edgeOfA, edgeOfB};
@@ -73,7 +74,7 @@ fn three_lists() -> [f32; 384]
     [0.0f32; 384]
 }
 
-// Fills the table with every row where there is room for them, as for two logs, and says whether.
+// Whether there is room for every row, as for two logs; the table holds them then.
 fn fill_whole(
     normals: &[f32],
     faces: usize,
@@ -82,7 +83,7 @@ fn fill_whole(
     table: &mut [f32],
 ) -> bool
     requires { ⌜ (faces ≤ 128) × (width ≤ 128) × (length (now normals) ≡ 384) × (length (now directions) ≡ 384) × (length (now table) ≡ 1024) ⌝ }
-    ensures { λ r. ⌜ (length (now (table .exit)) ≡ 1024)
+    ensures { λ r. ⌜ (r ≡ leb (faces * width) 1024) × (length (now (table .exit)) ≡ 1024)
         × (r ≡ true → Table (now (normals .entry)) faces (vectorIn (now (directions .entry))) width (now (table .exit))) ⌝ }
 {
     if 1024 < faces * width {
@@ -189,7 +190,7 @@ fn scan_rows(
 // How many places a row of n edges has: eights, so that no edge is done alone. What stands above the edges is not looked at.
 fn width_of(n: usize) -> usize
     requires { ⌜ n ≤ 128 ⌝ }
-    ensures { λ r. ⌜ (n ≤ r) × (r ≤ 128) ⌝ }
+    ensures { λ r. ⌜ r ≡ (n + 7) / 8 * 8 ⌝ }
 {
     (n + 7) / 8 * 8
 }

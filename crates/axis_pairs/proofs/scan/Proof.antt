@@ -15,17 +15,23 @@ slice-aggregate-fill-whole c = c .before .empty-table .ensures
 
 fill-whole-requires : tie.Need-fill-whole-requires
 fill-whole-requires c κs = let s = c .before .before .before .before .before .before .before .before .before .before in
-    let p = s .pre .0 in
-    (p .other-in .fit .f-high, c .before .before .width-of .ensures .1, p .turned-long, s .pre .1 .long, sym (c .before .empty-table .ensures))
+    let p = s .pre .0 in (
+      p .other-in .fit .f-high,
+      omega (arith, c .before .before .width-of .ensures, p .few, p .edges-in .fit .h-high),
+      p .turned-long,
+      s .pre .1 .long,
+      sym (c .before .empty-table .ensures),
+    )
 
 slice-aggregate-scan-rows : tie.Need-slice-aggregate-scan-rows
-slice-aggregate-scan-rows c = sym (c .before .before .fill-whole .ensures .0)
+slice-aggregate-scan-rows c = sym (c .before .before .fill-whole .ensures .1)
 
 scan-rows-requires : tie.Need-scan-rows-requires
 scan-rows-requires c κs = let s = c .before .before .before .before .before .before .before .before .before .before .before .before .before in
     let fill = c .before .before .fill-whole .ensures in
     let width = c .before .before .before .before .before .width-of .ensures in
-    (s .pre .0, s .pre .1, width .0, width .1, fill .0, fill .1)
+    let p = s .pre .0 in
+    (p, s .pre .1, omega (arith, width), omega (arith, width, p .few, p .edges-in .fit .h-high), fill .1, fill .2)
 
 returns : tie.Need-returns
 returns c = c .before .scan-rows .ensures
