@@ -1,9 +1,12 @@
 -- Three fills make a list of vectors, and one fill makes a row of dots, whatever the vectors are called. Assumes nothing.
-use Prim.Native.Nat.{ℕ, _+_, _*_, _≤_}
+use Prim.Native.Nat.{ℕ, _+_, _*_, _<_, _≤_}
 use mathlib.Core.List.{List}
 use mathlib.Core.Path.{_≡_, sym, ap, _∙_, subst}
 use native.Mathlib.Omega.{arith}
-use lib.ListN.{length, getD}
+use native.Mathlib.Nat.{le-antisymm, not-suc-le-zero}
+use borrow.Author.Count.{below-more}
+use lib.Seq.{getD-set-same, getD-set-other}
+use lib.ListN.{length, getD, set, length-set}
 use lib.Ieee.{Float, nan}
 use Rattle.vector.specs.declared.Vec3.{Vec3}
 use Rattle.hull_links.specs.declared.HullSize.{HullSize}
@@ -63,3 +66,42 @@ row-kept {g} {n} {m} {p} {at} {was} {is} v w r h f =
 pub row-same : {v : Vec3} {n width at : ℕ} {table : List Float} (g : ℕ → Vec3) (lists : List Float) → n ≤ width → Three g n lists
     → Row v (vectorIn lists) width at table → Row v g n at table
 row-same {v} g lists h e r = record { room = omega (arith, r .room, h); each = λ k q. r .each k (omega (arith, q, h)) ∙ ap (dotRight v) (e .each k q) }
+
+-- ---- two rows in one pass
+pub no-row : {v : Vec3} {g : ℕ → Vec3} {at : ℕ} {table : List Float} → at ≤ length table → Row v g 0 at table
+no-row h = record { room = omega (arith, h); each = λ k q. absurd (not-suc-le-zero q) }
+
+module _ {g : ℕ → Vec3} {n at behind i : ℕ} {table : List Float} (v w : Vec3) (x y : Float) (a : Row v g i at table) (b : Row w g i behind table)
+    (apart : at + n ≤ behind) (room : behind + n ≤ length table) (h : i < n) (e : x ≡ dotRight v (g i)) (d : y ≡ dotRight w (g i)) where
+  abbrev one : List Float
+  one = set table (at + i) x
+
+  abbrev both : List Float
+  both = set one (behind + i) y
+
+  pub two-long : length both ≡ length table
+  two-long = length-set one (behind + i) y ∙ length-set table (at + i) x
+
+  pub two-more : Row v g (i + 1) at both × Row w g (i + 1) behind both
+  two-more = (
+    record {
+      room = omega (arith, two-long, apart, room, h);
+      each = below-more (λ k. getD both (at + k) nan ≡ dotRight v (g k)) i
+          (λ k q. getD-set-other one (behind + i) (at + k) y nan (λ z. omega (arith, z, q, h, apart))
+          ∙ getD-set-other table (at + i) (at + k) x nan (λ z. omega (arith, z, q)) ∙ a .each k q)
+          (getD-set-other one (behind + i) (at + i) y nan (λ z. omega (arith, z, h, apart))
+          ∙ getD-set-same table (at + i) x nan (omega (arith, apart, room, h)) ∙ e);
+    },
+    record {
+      room = omega (arith, two-long, room, h);
+      each = below-more (λ k. getD both (behind + k) nan ≡ dotRight w (g k)) i
+          (λ k q. getD-set-other one (behind + i) (behind + k) y nan (λ z. omega (arith, z, q))
+          ∙ getD-set-other table (at + i) (behind + k) x nan (λ z. omega (arith, z, h, apart)) ∙ b .each k q)
+          (getD-set-same one (behind + i) y nan (omega (arith, length-set table (at + i) x, room, h)) ∙ d);
+    },
+  )
+
+pub two-done : {g : ℕ → Vec3} {n at behind : ℕ} {table : List Float} (v w : Vec3) (i : ℕ) → i ≤ n → n ≤ i → Row v g i at table × Row w g i behind table
+    → Row v g n at table × Row w g n behind table
+two-done {g} {n} {at} {behind} {table} v w i h k r =
+    subst (λ (m : ℕ). Row v g m at table × Row w g m behind table) (le-antisymm h k) r

@@ -8,7 +8,7 @@ ghost use Rattle.rotation.specs.Bounded.{rowOf};
 ghost use Rattle.hull.specs.Numbers.{vertexAt, planeAt};
 ghost use Rattle.axis_edges.specs.Edges.{edgeOfA, turnedNormal, turnedPoint};
 ghost use Rattle.axis_edges.specs.inner.Ready.{EdgesIn};
-ghost use Rattle.axis_lists.specs.inner.Lists.{vectorIn, Three};
+ghost use Rattle.axis_lists.specs.inner.Lists.{vectorIn, Three, Row};
 ghost use Rattle.axis_lists.specs.inner.Fills.{Filled, differenceAt, turnedNormalAt, turnedPointAt, normalAt, dotAt};
 use axis_edges::dot_right;
 use hull_links::HullSize;
@@ -103,6 +103,29 @@ pub fn fill_row(v: Vec3, lists: &[f32], n: usize, out: &mut [f32], at: usize)
     let mut i = 0;
     while i < n {
         out[at + i] = dot_right(v, vector_in(lists, i));
+        i += 1;
+    }
+}
+
+// Two vectors along the first n vectors of three lists, so that the lists are read once for both rows.
+pub fn fill_two_rows(
+    v: Vec3,
+    w: Vec3,
+    lists: &[f32],
+    n: usize,
+    out: &mut [f32],
+    at: usize,
+    behind: usize,
+)
+    requires { ⌜ (n ≤ 128) × (length (now lists) ≡ 384) × (at + n ≤ behind) × (behind + n ≤ length (now out)) ⌝ }
+    ensures { λ _. ⌜ (length (now (out .exit)) ≡ length (now (out .entry))) × Row v (vectorIn (now (lists .entry))) n at (now (out .exit))
+        × Row w (vectorIn (now (lists .entry))) n behind (now (out .exit)) ⌝ }
+{
+    let mut i = 0;
+    while i < n {
+        let u = vector_in(lists, i);
+        out[at + i] = dot_right(v, u);
+        out[behind + i] = dot_right(w, u);
         i += 1;
     }
 }

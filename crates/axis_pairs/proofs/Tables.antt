@@ -52,15 +52,6 @@ module _ (turned ds : List Float) (n : ℕ) (was : List Float) where
     pub ends : f ≤ faces → faces ≤ f → (length table ≡ length was) × Table turned faces (vectorIn ds) n table
     ends h k = (t .long, subst (λ (z : ℕ). Table turned z (vectorIn ds) n table) (le-antisymm h k) (t .rows))
 
--- ---- two rows at a time: the second is filled behind the first
-pub both-made : (b : EdgeB) (ds : List Float) (n at : ℕ) (l₀ l₁ l₂ : List Float) → n ≤ at → at + n ≤ length l₀
-    → Filled (dotAt (b .normal0) ds) 0 n l₀ l₁ → Filled (dotAt (b .normal1) ds) at n l₁ l₂ → BothRows b (vectorIn ds) n 0 at l₂
-both-made b ds n at l₀ l₁ l₂ h e fill0 fill1 =
-    record {
-      row0 = row-kept (b .normal0) (dotAt (b .normal1) ds) (row-made (b .normal0) ds (omega (arith, e)) fill0) (omega (arith, h)) fill1;
-      row1 = row-made (b .normal1) ds (omega (arith, e, fill0 .long)) fill1;
-    }
-
 -- ---- reading: the rows of the two faces of an edge of B, under the names that the code has
 row-of : (turned : List Float) (faces : ℕ) (g : ℕ → Vec3) (n : ℕ) (table : List Float) → Table turned faces g n table → (f : ℕ) → f < faces
     → (c : Vec3) (p : ℕ) → c ≡ vectorIn turned f → p ≡ f → Row c g n (p * n) table

@@ -121,8 +121,7 @@ fn rows_of(
             second: second * width,
         };
     }
-    axis_lists::fill_row(b.normal0, directions, width, table, 0);
-    axis_lists::fill_row(b.normal1, directions, width, table, 128);
+    axis_lists::fill_two_rows(b.normal0, b.normal1, directions, width, table, 0, 128);
     Rows {
         first: 0,
         second: 128,
