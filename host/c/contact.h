@@ -29,7 +29,7 @@ extern "C" {
 
 /* The number of these records and functions. It goes up with every change of a record, of a function's parameters, or of
    what a number in them means. */
-#define CONTACT_ABI 3
+#define CONTACT_ABI 4
 
 /* The most points of a contact, and the least capacity with which a call does any work. */
 #define CONTACT_MAX_POINTS 4
@@ -75,7 +75,7 @@ typedef struct {
    and its offset, the dot of the normal with any corner of the face.
    links: for each vertex a half-edge that starts there; for each half-edge its next, its twin, its origin and its face, a
    byte each; for each face one of its half-edges. A face's ring goes counter-clockwise as seen from outside, and half-edges
-   2k and 2k + 1 are twins. */
+   2k and 2k + 1 are twins. All faces are of one closed shell without a hole through it. */
 
 /* How many numbers and links a hull of these sizes has; of sizes that no hull can have the result means nothing. */
 static inline size_t contact_numbers_len(contact_size size) {
@@ -168,9 +168,9 @@ contact_outcome contact_collide(
     const float *numbers_b, size_t numbers_b_len, const uint8_t *links_b, size_t links_b_len, contact_size size_b,
     contact_transform b_in_a, contact_cache *cache);
 
-/* The number of the first rule that a hull breaks, 0 if none. With a capacity of 4 or more contact_collide gives
-   CONTACT_HULL_A exactly where this is not 0 of hull A, and CONTACT_HULL_B exactly where it is 0 of A and not 0 of B. Of any
-   lists and sizes; nothing is written. */
+/* The number of the first rule that a hull breaks, 1 to 9 for H1 to H9, 0 if none. With a capacity of 4 or more
+   contact_collide gives CONTACT_HULL_A exactly where this is not 0 of hull A, and CONTACT_HULL_B exactly where it is 0 of A
+   and not 0 of B. Of any lists and sizes; nothing is written. */
 uint8_t contact_first_broken_rule(
     const float *numbers, size_t numbers_len, const uint8_t *links, size_t links_len, contact_size size);
 
@@ -220,6 +220,7 @@ static inline const char *contact_rule_text(uint8_t rule) {
     case 6: return "a face's stored edge is not its own, or its ring is shorter than 3 or misses a half-edge";
     case 7: return "a vertex's stored edge starts elsewhere, or its fan misses a half-edge that starts there";
     case 8: return "a number is not finite or beyond its limit, a normal is not of length 1, or an edge is too short";
+    case 9: return "there are two shells or more, or the one has a hole through it: V - H/2 + F is not 2";
     default: return NULL;
     }
 }
@@ -235,6 +236,7 @@ static inline const char *contact_rule_remedy(uint8_t rule) {
     case 6: return "store for each face a half-edge of its ring, and give a face with two rings two numbers";
     case 7: return "store for each vertex a half-edge that starts there, and give a corner where two fans meet two vertices";
     case 8: return "keep coordinates, padding and box within 4096, offsets within 8192, vertices in the box, edges above 1/1024";
+    case 9: return "give each closed shell a record of its own, and cut a solid with a hole into pieces without one";
     default: return NULL;
     }
 }

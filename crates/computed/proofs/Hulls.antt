@@ -1,17 +1,21 @@
 -- The rules are not empty: hulls that a reader knows break none of them, and for each rule a hull that breaks it is told by its number. Assumes nothing.
-use mathlib.Core.Path.{_≡_, refl}
+use mathlib.Core.Path.{_≡_, refl, ap}
+use mathlib.Core.Bool.{Bool, true, false}
 use mathlib.Core.List.{List, [], _∷_, map, _++_}
 use Prim.Native.Nat.{ℕ}
+use native.Mathlib.Omega.{arith}
 use lib.ListN.{set}
 use lib.Ieee.{binary32, le, neg, ofBits, add, sub, mul}
 use Rattle.hull_links.specs.Tests.{_&_, _or_, implies, all, firstBroken}
 use Rattle.hull_links.specs.Walks.{has, firsts, until, ring}
 use Rattle.hull_links.specs.Rules.{h1, vertexInRange, edgeInRange, faceInRange, h2, twinsAt, h3, linkedAt, h4, newNext, h5, ringHolds, ringRight, h6}
 use Rattle.hull_links.specs.Rules.{fanHolds, fanRight, h7}
+use Rattle.hull_shell.specs.Shell.{isIn, listed, edgesWith, any, leads, oneStepOn, within, h9}
 use Rattle.hull.specs.Numbers.{boxOf, vertexAt, planeAt}
 use Rattle.hull_limits.specs.Measures.{inside, small, moderate, nearOne, apart, inBox, planeRight, endsApart}
 use Rattle.hull.specs.Rule8.{finiteAt, smallAt, vertexInBox, planeRightAt, edgeLong, h8, brokenRule}
-use Rattle.computed.proofs.Shapes.{Sample, tetrahedron, cube, log, pyramid}
+use Rattle.computed.proofs.Shapes.{Sample, tetrahedron, cube, log, pyramid, twoTetrahedra, torus, tetrahedronAndTorus}
+use Rattle.computed.proofs.Walked.{repeated, passed, one-shell-walked}
 
 abbrev answer : Sample → ℕ
 answer h = brokenRule (h .size) (map (ofBits binary32) (h .bits)) (h .links)
@@ -44,7 +48,6 @@ table =
     row tetrahedron 0
     ∷ row cube 0
     ∷ row log 0
-    ∷ row pyramid 0
     -- H1: a vertex more than the lists hold; a link too many; a number too many
     ∷ row (withVertices 5) 1
     ∷ row (withLinks (tetrahedron .links ++ (0 ∷ []))) 1
@@ -67,10 +70,39 @@ table =
     ∷ row (withNumber 7 0x3f80_0001) 8
     ∷ row (withNumber 7 0x3a7f_ffff) 8
     ∷ row (withNumber 7 0x3a80_0000) 0
+    -- H9: two shells; one with a hole; both, so that V - H/2 + F = 2
+    ∷ row twoTetrahedra 9
+    ∷ row torus 9
+    ∷ row tetrahedronAndTorus 9
     ∷ []
 
 pub answers : map (λ (r : Row). answer (r .hull)) table ≡ map (λ (r : Row). r .rule) table
 unfolding _&_ _or_ implies all firstBroken has firsts until ring h1 vertexInRange edgeInRange faceInRange h2 twinsAt h3 linkedAt h4 newNext
     h5 ringHolds ringRight h6 fanHolds fanRight h7 boxOf vertexAt planeAt inside small moderate nearOne apart finiteAt smallAt inBox
-    vertexInBox planeRight planeRightAt endsApart edgeLong h8 brokenRule le neg ofBits add sub mul
+    vertexInBox planeRight planeRightAt endsApart edgeLong h8 isIn listed edgesWith any leads oneStepOn within h9 brokenRule le neg ofBits add sub mul
 answers = refl
+
+-- ---- the largest pyramid: each side is gone round and left for the next one
+abbrev walk : List Bool
+walk = repeated 64 (false ∷ true ∷ false ∷ true ∷ false ∷ [])
+
+pyramid-one-shell : h9 (pyramid .size) (pyramid .links) ≡ true
+unfolding _&_ all h2 vertexInRange edgeInRange faceInRange has repeated passed
+pyramid-one-shell =
+    one-shell-walked (pyramid .size) (pyramid .links) walk
+    (record {
+      v-low = omega arith;
+      v-high = omega arith;
+      h-even = refl;
+      h-low = omega arith;
+      h-high = omega arith;
+      f-low = omega arith;
+      f-high = omega arith;
+      long = refl;
+    }) refl refl refl
+
+pub pyramid-right : answer pyramid ≡ 0
+unfolding _&_ _or_ implies all firstBroken has firsts until ring h1 vertexInRange edgeInRange faceInRange h2 twinsAt h3 linkedAt h4 newNext
+    h5 ringHolds ringRight h6 fanHolds fanRight h7 boxOf vertexAt planeAt inside small moderate nearOne apart finiteAt smallAt inBox
+    vertexInBox planeRight planeRightAt endsApart edgeLong h8 brokenRule le neg ofBits add sub mul
+pyramid-right = ap (λ (last : Bool). firstBroken 9 (last ∷ [])) pyramid-one-shell

@@ -1,6 +1,7 @@
 mod Rows
 pub mod Marked
 mod Shapes
+mod Walked
 pub mod Hulls
 pub mod LimitsHull
 pub mod LimitsSearch

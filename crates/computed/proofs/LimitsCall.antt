@@ -27,6 +27,7 @@ use Rattle.hull_links.specs.Rules.{ringHolds, ringRight, h6, fanHolds, fanRight
 use Rattle.hull_limits.specs.Measures.{inside, small, moderate, nearOne, apart, inBox, planeRight, endsApart}
 use Rattle.hull_limits.specs.Transform.{transformRight}
 use Rattle.hull.specs.Rule8.{finiteAt, smallAt, vertexInBox, planeRightAt, edgeLong, h8, brokenRule}
+use Rattle.hull_shell.specs.Shell.{isIn, listed, edgesWith, any, leads, oneStepOn, within, h9}
 use Rattle.hull.specs.Numbers.{boxOf, vertexAt, planeAt, supportAt}
 use Rattle.axis_best.specs.Leads.{stopsOf, betterOf, leadAfter}
 use Rattle.axis_faces.specs.Support.{supportValueOf, groupOf, splatOf, leastLanes, supportOf}
@@ -204,6 +205,7 @@ unfolding isqrt pattern rootOf patternOf embedOf indexOf absOf minOf maxOf addOf
     minIndexOf matrixOf transposeOf mulMvOf rotateOf invRotateOf transformPointOf invTransformPointOf invertOf ownerOf pairOf turns _&_ _or_ implies all
     firstBroken has firsts until ring h1 vertexInRange edgeInRange faceInRange h2 twinsAt h3 linkedAt h4 newNext h5 ringHolds ringRight h6 fanHolds
     fanRight h7 inside small moderate nearOne apart inBox planeRight endsApart transformRight finiteAt smallAt vertexInBox planeRightAt edgeLong h8
+    isIn listed edgesWith any leads oneStepOn within h9
     brokenRule boxOf vertexAt planeAt supportAt stopsOf betterOf leadAfter supportValueOf groupOf splatOf leastLanes supportOf biasOf directionOf exactOf
     faceAxisOf faceSeparationOf farthestVertexOf faceTakenOf faceOf faceSearchOf dotRight differenceOf sumOf edgeOfA turnedNormal turnedPoint edgeOfB
     passesOf parallelOf betweenOf axisAcrossOf edgeSeparationOf triedOf edgePairOf rowPairs allPairs axisOf apartOf edgeOf foundOf

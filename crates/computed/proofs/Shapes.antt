@@ -1,7 +1,8 @@
--- Four hulls in full, their coordinates and planes rounded to binary32, and two single edges: what the tables compute on. Assumes nothing.
+-- Four hulls in full, their coordinates and planes rounded to binary32; three records that are not one shell; two single edges: what the tables compute
+-- on. Assumes nothing.
 use mathlib.Core.List.{List, [], _∷_, _++_}
-use Prim.Native.Nat.{ℕ}
-use lib.ListN.{replicate}
+use Prim.Native.Nat.{ℕ, zero, suc, _+_}
+use lib.ListN.{replicate, take}
 use Rattle.hull_links.specs.declared.HullSize.{HullSize}
 use Rattle.computed.proofs.Rows.{sizes}
 
@@ -190,4 +191,59 @@ pyramid = record {
       115 ∷ 113 ∷ 111 ∷ 109 ∷ 107 ∷ 105 ∷ 103 ∷ 101 ∷ 99 ∷ 97 ∷ 95 ∷ 93 ∷ 91 ∷ 89 ∷ 87 ∷ 85 ∷ 83 ∷ 81 ∷ 79 ∷ 77 ∷ 75 ∷ 73 ∷ 71 ∷ 69 ∷ 67 ∷ 65 ∷ 63 ∷
       61 ∷ 59 ∷ 57 ∷ 55 ∷ 53 ∷ 51 ∷ 49 ∷ 47 ∷ 45 ∷ 43 ∷ 41 ∷ 39 ∷ 37 ∷ 35 ∷ 33 ∷ 31 ∷ 29 ∷ 27 ∷ 25 ∷ 23 ∷ 21 ∷ 19 ∷ 17 ∷ 15 ∷ 13 ∷ 11 ∷ 9 ∷ 7 ∷ 5 ∷ 3 ∷
       1 ∷ 127 ∷ [];
+}
+
+-- ---- records that are not one shell. Nothing that the rules ask is broken by corners that lie on a line: corner i at (i, 0, 0), every normal (1, 0, 0)
+abbrev steps16 : List ℕ
+steps16 =
+    0x0000_0000 ∷ 0x3f80_0000 ∷ 0x4000_0000 ∷ 0x4040_0000 ∷ 0x4080_0000 ∷ 0x40a0_0000 ∷ 0x40c0_0000 ∷ 0x40e0_0000 ∷ 0x4100_0000 ∷ 0x4110_0000 ∷ 0x4120_0000 ∷
+    0x4130_0000 ∷ 0x4140_0000 ∷ 0x4150_0000 ∷ 0x4160_0000 ∷ 0x4170_0000 ∷ []
+
+abbrev planesOf : ℕ → List ℕ
+planesOf zero = []
+planesOf (suc f) = 0x3f80_0000 ∷ 0x0000_0000 ∷ 0x0000_0000 ∷ 0x0000_0000 ∷ planesOf f
+
+-- for p corners, padding included, and f faces: the box from (0, 0, 0) to (16, 0, 0), the three lists, the planes
+abbrev onALine : ℕ → ℕ → List ℕ
+onALine p f =
+    (replicate 3 0x0000_0000 ++ (0x4180_0000 ∷ 0x0000_0000 ∷ 0x0000_0000 ∷ [])) ++ take p steps16 ++ replicate (p + p) 0x0000_0000 ++ planesOf f
+
+-- two tetrahedra: V - H/2 + F is 4
+abbrev pub twoTetrahedra : Sample
+twoTetrahedra = record {
+  size = sizes 8 24 8;
+  bits = onALine 8 8;
+  links =
+      0 ∷ 2 ∷ 4 ∷ 8 ∷ 12 ∷ 14 ∷ 16 ∷ 20 ∷ 2 ∷ 1 ∷ 0 ∷ 0 ∷ 6 ∷ 0 ∷ 1 ∷ 1 ∷ 4 ∷ 3 ∷ 1 ∷ 0 ∷ 9 ∷ 2 ∷ 2 ∷ 2 ∷ 0 ∷ 5 ∷ 2 ∷ 0 ∷ 11 ∷ 4 ∷ 0 ∷ 3 ∷ 8 ∷ 7 ∷ 0 ∷ 1 ∷ 5 ∷
+      6 ∷ 3 ∷ 3 ∷ 1 ∷ 9 ∷ 3 ∷ 1 ∷ 10 ∷ 8 ∷ 1 ∷ 2 ∷ 3 ∷ 11 ∷ 3 ∷ 2 ∷ 7 ∷ 10 ∷ 2 ∷ 3 ∷ 14 ∷ 13 ∷ 4 ∷ 4 ∷ 18 ∷ 12 ∷ 5 ∷ 5 ∷ 16 ∷ 15 ∷ 5 ∷ 4 ∷ 21 ∷ 14 ∷ 6 ∷ 6 ∷
+      12 ∷ 17 ∷ 6 ∷ 4 ∷ 23 ∷ 16 ∷ 4 ∷ 7 ∷ 20 ∷ 19 ∷ 4 ∷ 5 ∷ 17 ∷ 18 ∷ 7 ∷ 7 ∷ 13 ∷ 21 ∷ 7 ∷ 5 ∷ 22 ∷ 20 ∷ 5 ∷ 6 ∷ 15 ∷ 23 ∷ 7 ∷ 6 ∷ 19 ∷ 22 ∷ 6 ∷ 7 ∷ 0 ∷ 6 ∷
+      9 ∷ 11 ∷ 12 ∷ 18 ∷ 21 ∷ 23 ∷ [];
+}
+
+-- three by three squares, joined to a torus: one shell, with V - H/2 + F = 0
+abbrev pub torus : Sample
+torus = record {
+  size = sizes 9 36 9;
+  bits = onALine 12 9;
+  links =
+      0 ∷ 6 ∷ 12 ∷ 2 ∷ 4 ∷ 10 ∷ 20 ∷ 22 ∷ 26 ∷ 2 ∷ 1 ∷ 0 ∷ 0 ∷ 16 ∷ 0 ∷ 3 ∷ 2 ∷ 4 ∷ 3 ∷ 3 ∷ 0 ∷ 18 ∷ 2 ∷ 4 ∷ 3 ∷ 6 ∷ 5 ∷ 4 ∷ 0 ∷ 8 ∷ 4 ∷ 1 ∷ 1 ∷ 0 ∷ 7 ∷ 1 ∷
+      0 ∷ 32 ∷ 6 ∷ 0 ∷ 6 ∷ 10 ∷ 9 ∷ 4 ∷ 1 ∷ 23 ∷ 8 ∷ 5 ∷ 4 ∷ 12 ∷ 11 ∷ 5 ∷ 1 ∷ 14 ∷ 10 ∷ 2 ∷ 2 ∷ 5 ∷ 13 ∷ 2 ∷ 1 ∷ 34 ∷ 12 ∷ 1 ∷ 7 ∷ 1 ∷ 15 ∷ 5 ∷ 2 ∷ 27 ∷ 14 ∷
+      3 ∷ 5 ∷ 11 ∷ 17 ∷ 0 ∷ 2 ∷ 31 ∷ 16 ∷ 2 ∷ 8 ∷ 20 ∷ 19 ∷ 3 ∷ 3 ∷ 15 ∷ 18 ∷ 6 ∷ 5 ∷ 22 ∷ 21 ∷ 6 ∷ 3 ∷ 30 ∷ 20 ∷ 7 ∷ 6 ∷ 3 ∷ 23 ∷ 7 ∷ 3 ∷ 24 ∷ 22 ∷ 4 ∷ 4 ∷
+      26 ∷ 25 ∷ 7 ∷ 4 ∷ 33 ∷ 24 ∷ 8 ∷ 7 ∷ 9 ∷ 27 ∷ 8 ∷ 4 ∷ 28 ∷ 26 ∷ 5 ∷ 5 ∷ 19 ∷ 29 ∷ 8 ∷ 5 ∷ 35 ∷ 28 ∷ 6 ∷ 8 ∷ 7 ∷ 31 ∷ 6 ∷ 6 ∷ 29 ∷ 30 ∷ 0 ∷ 8 ∷ 21 ∷ 33 ∷
+      1 ∷ 6 ∷ 13 ∷ 32 ∷ 7 ∷ 7 ∷ 25 ∷ 35 ∷ 2 ∷ 7 ∷ 17 ∷ 34 ∷ 8 ∷ 8 ∷ 0 ∷ 5 ∷ 11 ∷ 18 ∷ 23 ∷ 27 ∷ 30 ∷ 33 ∷ 35 ∷ [];
+}
+
+-- a tetrahedron and the torus: V - H/2 + F is 2, and two shells
+abbrev pub tetrahedronAndTorus : Sample
+tetrahedronAndTorus = record {
+  size = sizes 13 48 13;
+  bits = onALine 16 13;
+  links =
+      0 ∷ 2 ∷ 4 ∷ 8 ∷ 12 ∷ 18 ∷ 24 ∷ 14 ∷ 16 ∷ 22 ∷ 32 ∷ 34 ∷ 38 ∷ 2 ∷ 1 ∷ 0 ∷ 0 ∷ 6 ∷ 0 ∷ 1 ∷ 1 ∷ 4 ∷ 3 ∷ 1 ∷ 0 ∷ 9 ∷ 2 ∷ 2 ∷ 2 ∷ 0 ∷ 5 ∷ 2 ∷ 0 ∷ 11 ∷ 4 ∷
+      0 ∷ 3 ∷ 8 ∷ 7 ∷ 0 ∷ 1 ∷ 5 ∷ 6 ∷ 3 ∷ 3 ∷ 1 ∷ 9 ∷ 3 ∷ 1 ∷ 10 ∷ 8 ∷ 1 ∷ 2 ∷ 3 ∷ 11 ∷ 3 ∷ 2 ∷ 7 ∷ 10 ∷ 2 ∷ 3 ∷ 14 ∷ 13 ∷ 4 ∷ 4 ∷ 28 ∷ 12 ∷ 7 ∷ 6 ∷ 16 ∷ 15 ∷
+      7 ∷ 4 ∷ 30 ∷ 14 ∷ 8 ∷ 7 ∷ 18 ∷ 17 ∷ 8 ∷ 4 ∷ 20 ∷ 16 ∷ 5 ∷ 5 ∷ 12 ∷ 19 ∷ 5 ∷ 4 ∷ 44 ∷ 18 ∷ 4 ∷ 10 ∷ 22 ∷ 21 ∷ 8 ∷ 5 ∷ 35 ∷ 20 ∷ 9 ∷ 8 ∷ 24 ∷ 23 ∷ 9 ∷ 5 ∷
+      26 ∷ 22 ∷ 6 ∷ 6 ∷ 17 ∷ 25 ∷ 6 ∷ 5 ∷ 46 ∷ 24 ∷ 5 ∷ 11 ∷ 13 ∷ 27 ∷ 9 ∷ 6 ∷ 39 ∷ 26 ∷ 7 ∷ 9 ∷ 23 ∷ 29 ∷ 4 ∷ 6 ∷ 43 ∷ 28 ∷ 6 ∷ 12 ∷ 32 ∷ 31 ∷ 7 ∷ 7 ∷ 27 ∷
+      30 ∷ 10 ∷ 9 ∷ 34 ∷ 33 ∷ 10 ∷ 7 ∷ 42 ∷ 32 ∷ 11 ∷ 10 ∷ 15 ∷ 35 ∷ 11 ∷ 7 ∷ 36 ∷ 34 ∷ 8 ∷ 8 ∷ 38 ∷ 37 ∷ 11 ∷ 8 ∷ 45 ∷ 36 ∷ 12 ∷ 11 ∷ 21 ∷ 39 ∷ 12 ∷ 8 ∷ 40 ∷
+      38 ∷ 9 ∷ 9 ∷ 31 ∷ 41 ∷ 12 ∷ 9 ∷ 47 ∷ 40 ∷ 10 ∷ 12 ∷ 19 ∷ 43 ∷ 10 ∷ 10 ∷ 41 ∷ 42 ∷ 4 ∷ 12 ∷ 33 ∷ 45 ∷ 5 ∷ 10 ∷ 25 ∷ 44 ∷ 11 ∷ 11 ∷ 37 ∷ 47 ∷ 6 ∷ 11 ∷
+      29 ∷ 46 ∷ 12 ∷ 12 ∷ 0 ∷ 6 ∷ 9 ∷ 11 ∷ 12 ∷ 17 ∷ 23 ∷ 30 ∷ 35 ∷ 39 ∷ 42 ∷ 45 ∷ 47 ∷ [];
 }

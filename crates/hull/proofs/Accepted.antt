@@ -15,6 +15,8 @@ use Rattle.hull_links.specs.Rules.{h1, h2, h3, h4, h5, h6, h7, Linked}
 use Rattle.hull_links.proofs.Tests.{and-left, all-at, unbroken}
 use Rattle.hull_links.proofs.Facts.{links-fit, numbers-fit, edge-in, vertex-edge-lt, face-edge-lt, face-edge-face, vertex-edge-origin, twin-even, twin-odd}
 use Rattle.hull_links.proofs.Rounds.{rounds}
+use Rattle.hull_shell.specs.Shell.{h9}
+use Rattle.hull_shell.proofs.Theorem.{one-shell}
 use Rattle.vector.specs.Bounded.{VecBelow}
 use Rattle.hull.specs.Numbers.{numberAt, boxOf, vertexAt, planeAt}
 use Rattle.hull_limits.specs.Measures.{nearOne, planeRight, endsApart}
@@ -47,7 +49,7 @@ module _ (s : HullSize) (n : List Float) (l : List ℕ) (p : Passed s n l) where
 
 -- ---- where no rule is broken, each of them holds; the first of them, H1, has number 0
 module _ (s : HullSize) (n : List Float) (l : List ℕ) (q : brokenRule s n l ≡ 0) where
-  rules-hold : (i : ℕ) → getD (h1 s n l ∷ h2 s l ∷ h3 s l ∷ h4 s l ∷ h5 s l ∷ h6 s l ∷ h7 s l ∷ h8 s n l ∷ []) i true ≡ true
+  rules-hold : (i : ℕ) → getD (h1 s n l ∷ h2 s l ∷ h3 s l ∷ h4 s l ∷ h5 s l ∷ h6 s l ∷ h7 s l ∷ h8 s n l ∷ h9 s l ∷ []) i true ≡ true
   unfolding brokenRule
   rules-hold = unbroken 1 _ (omega arith) q
 
@@ -74,6 +76,7 @@ accepted s n l q =
       vertex-edge-starts = vertex-edge-origin s l (r 6);
       face-edge-starts = face-edge-face s l (r 5);
       rounds = rounds s l ok (r 5) (r 6);
+      one-shell = one-shell s l (ok .fits) (r 1) (r 8);
       vertices-below = vertex-below s n below;
       lower-below = box-below s n below .0;
       upper-below = box-below s n below .1;

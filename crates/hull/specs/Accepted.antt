@@ -10,6 +10,7 @@ use Rattle.bounds.specs.Squares.{squares3}
 use Rattle.hull_links.specs.declared.HullSize.{HullSize}
 use Rattle.hull_links.specs.Links.{padded, next, twin, origin, face, vertexEdge, faceEdge, LinksFit, NumbersFit}
 use Rattle.hull_links.specs.Rounds.{Rounds}
+use Rattle.hull_shell.specs.Shell.{OneShell}
 use Rattle.vector.specs.Bounded.{VecBelow}
 use Rattle.hull.specs.Numbers.{boxOf, vertexAt, planeAt}
 use Rattle.hull_limits.specs.Measures.{nearOne, endsApart}
@@ -32,6 +33,8 @@ pub record Accepted (s : HullSize) (n : List Float) (l : List ℕ) : Type 0 wher
   pub face-edge-starts : (f : ℕ) → f < s .faces → face s l (faceEdge s l f) ≡ f
   -- every ring and every fan closes, and each round lists every half-edge once
   pub rounds : Rounds s l
+  -- it is one closed shell
+  pub one-shell : OneShell s l
   -- vertices, padding and box; normals; offsets
   pub vertices-below : (v : ℕ) → v < padded s → VecBelow 22 (vertexAt s n v)
   pub lower-below : VecBelow 22 (boxOf n .lower)

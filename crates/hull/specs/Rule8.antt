@@ -10,6 +10,7 @@ use Rattle.hull_links.specs.declared.HullSize.{HullSize}
 use Rattle.hull_links.specs.Tests.{_&_, all, firstBroken}
 use Rattle.hull_links.specs.Links.{planesFrom, origin}
 use Rattle.hull_links.specs.Rules.{h1, h2, h3, h4, h5, h6, h7}
+use Rattle.hull_shell.specs.Shell.{h9}
 use Rattle.hull_limits.specs.Measures.{small, inBox, planeRight, endsApart}
 use Rattle.hull.specs.Numbers.{numberAt, boxOf, vertexAt, planeAt}
 
@@ -43,4 +44,4 @@ h8 s n l =
 
 -- The first broken rule is the validator's answer, 0 if none.
 unfoldable pub brokenRule : HullSize → List Float → List ℕ → ℕ
-brokenRule s n l = firstBroken 1 (h1 s n l ∷ h2 s l ∷ h3 s l ∷ h4 s l ∷ h5 s l ∷ h6 s l ∷ h7 s l ∷ h8 s n l ∷ [])
+brokenRule s n l = firstBroken 1 (h1 s n l ∷ h2 s l ∷ h3 s l ∷ h4 s l ∷ h5 s l ∷ h6 s l ∷ h7 s l ∷ h8 s n l ∷ h9 s l ∷ [])

@@ -1,5 +1,5 @@
-// The numbers of a hull: its box, vertices and planes by value, and the validator, which tells the first broken rule of H1 to H8.
-// What the rules say is in specs/Rule8.antt and in the specs of `hull_links`; what acceptance gives to others is in specs/Accepted.antt.
+// The numbers of a hull: its box, vertices and planes by value, and the validator, which tells the first broken rule of H1 to H9.
+// What the rules say is in specs/Rule8.antt and in the specs of `hull_links` and `hull_shell`; what acceptance gives to others is in specs/Accepted.antt.
 pub mod rule8;
 
 ghost use mathlib.Core.Path.{_≡_};
@@ -11,6 +11,7 @@ use crate::rule8::numbers_right;
 use hull_links::HullSize;
 use hull_links::padded;
 use hull_links::planes_from;
+use hull_shell::one_shell;
 use vector::Aabb;
 use vector::Plane;
 use vector::Vec3;
@@ -93,6 +94,9 @@ pub fn first_broken_rule(numbers: &[f32], links: &[u8], size: HullSize) -> u8
     }
     if !numbers_right(numbers, links, size) {
         return 8;
+    }
+    if !one_shell(links, size) {
+        return 9;
     }
     0
 }

@@ -10,13 +10,10 @@ use lib.Dec.{eqb, ltb}
 use lib.ListN.{length, length-append}
 use borrow.Author.Tests.{eqb-true, eqb-false, eq-eqb, ne-eqb, ltb-true, ltb-false}
 use Rattle.hull_links.specs.Walks.{bit, count, has, firsts, joined}
+use Rattle.hull_links.specs.inner.Sums.{sum}
 use Rattle.hull_links.proofs.Tests.{cases}
 
--- ---- sums: f 0 + f 1 + .. + f (k - 1)
-unfoldable pub sum : (ℕ → ℕ) → ℕ → ℕ
-sum f zero = 0
-sum f (suc k) = f k + sum f k
-
+-- ---- sums
 pub sum-same : (f g : ℕ → ℕ) (k : ℕ) → ((e : ℕ) → e < k → f e ≡ g e) → sum f k ≡ sum g k
 unfolding sum
 sum-same f g zero h = refl
@@ -43,33 +40,28 @@ unfolding sum
 sum-add f g zero = refl
 sum-add f g (suc k) = let ih = sum-add f g k in omega arith
 
--- k numbers of at most 1 come to at most k, to less where one of them is 0; of at least 1 to at least k, to more where one of them is 2 or more
-pub sum-at-most : (f : ℕ → ℕ) (k : ℕ) → ((e : ℕ) → e < k → f e ≤ 1) → sum f k ≤ k
-sum-at-most f k h = omega (arith, sum-mono f (λ e. 1) k h, sum-const 1 (omega arith) k)
-
-pub sum-less : (f : ℕ → ℕ) (k x : ℕ) → ((e : ℕ) → e < k → f e ≤ 1) → x < k → f x ≡ 0 → sum f k < k
+-- a sum is greater where one of its numbers is and none is less
+pub sum-grows : (f g : ℕ → ℕ) (k x : ℕ) → ((e : ℕ) → e < k → f e ≤ g e) → x < k → f x < g x → sum f k < sum g k
 unfolding sum
-sum-less f zero x h l q = absurd (omega arith)
-sum-less f (suc k) x h l q =
-    cases (eqb x k) (λ t. omega (arith, rw (eqb-true x k t) at q, sum-at-most f k (λ e l. h e (omega arith))))
-    (λ t. omega (arith, h k (omega arith), sum-less f k x (λ e l. h e (omega arith)) (omega (arith, eqb-false x k t)) q))
-
-sum-at-least : (f : ℕ → ℕ) (k : ℕ) → ((e : ℕ) → e < k → 1 ≤ f e) → k ≤ sum f k
-unfolding sum
-sum-at-least f zero h = omega arith
-sum-at-least f (suc k) h = omega (arith, h k (omega arith), sum-at-least f k (λ e l. h e (omega arith)))
-
-sum-more : (f : ℕ → ℕ) (k x : ℕ) → ((e : ℕ) → e < k → 1 ≤ f e) → x < k → 2 ≤ f x → k < sum f k
-unfolding sum
-sum-more f zero x h l q = absurd (omega arith)
-sum-more f (suc k) x h l q =
-    cases (eqb x k) (λ t. omega (arith, rw (eqb-true x k t) at q, sum-at-least f k (λ e l. h e (omega arith))))
-    (λ t. omega (arith, h k (omega arith), sum-more f k x (λ e l. h e (omega arith)) (omega (arith, eqb-false x k t)) q))
+sum-grows f g zero x h l q = absurd (omega arith)
+sum-grows f g (suc k) x h l q =
+    cases (eqb x k) (λ t. omega (arith, subst (λ (y : ℕ). f y < g y) (eqb-true x k t) q, sum-mono f g k (λ e z. h e (omega arith))))
+    (λ t. omega (arith, h k (omega arith), sum-grows f g k x (λ e z. h e (omega arith)) (omega (arith, eqb-false x k t)) q))
 
 pub sum-one : (f : ℕ → ℕ) (k : ℕ) → ((e : ℕ) → e < k → f e ≡ 1) → sum f k ≡ k
 unfolding sum
 sum-one f zero h = refl
 sum-one f (suc k) h = let a = h k (omega arith) in let b = sum-one f k (λ e l. h e (omega arith)) in omega arith
+
+-- k numbers of at most 1 come to at most k, to less where one of them is 0; of at least 1 to more than k where one of them is 2 or more
+pub sum-at-most : (f : ℕ → ℕ) (k : ℕ) → ((e : ℕ) → e < k → f e ≤ 1) → sum f k ≤ k
+sum-at-most f k h = omega (arith, sum-mono f (λ e. 1) k h, sum-one (λ e. 1) k (λ e l. refl))
+
+pub sum-less : (f : ℕ → ℕ) (k x : ℕ) → ((e : ℕ) → e < k → f e ≤ 1) → x < k → f x ≡ 0 → sum f k < k
+sum-less f k x h l q = omega (arith, sum-grows f (λ e. 1) k x h l (omega arith), sum-one (λ e. 1) k (λ e l. refl))
+
+sum-more : (f : ℕ → ℕ) (k x : ℕ) → ((e : ℕ) → e < k → 1 ≤ f e) → x < k → 2 ≤ f x → k < sum f k
+sum-more f k x h l q = omega (arith, sum-grows (λ e. 1) f k x h l (omega arith), sum-one (λ e. 1) k (λ e l. refl))
 
 -- a sum of one 1 at x
 sum-miss : (x k : ℕ) → k ≤ x → sum (λ e. bit (eqb x e)) k ≡ 0

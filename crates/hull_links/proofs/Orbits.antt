@@ -20,7 +20,7 @@ unfolding steps
 steps-out step zero c = refl
 steps-out step (suc i) c = steps-out step i (step c)
 
-steps-add : (step : ℕ → ℕ) (i j c : ℕ) → steps step (i + j) c ≡ steps step i (steps step j c)
+pub steps-add : (step : ℕ → ℕ) (i j c : ℕ) → steps step (i + j) c ≡ steps step i (steps step j c)
 unfolding steps
 steps-add step zero j c = rw zero-add
 steps-add step (suc i) j c = rw suc-add (steps-add step i j (step c) ∙ ap (steps step i) (steps-out step j c))

@@ -53,6 +53,21 @@ unfolding _&_
 and-false-right true b p = p
 and-false-right false b p = refl
 
+pub or-left : (a b : Bool) → a ≡ true → (a or b) ≡ true
+unfolding _or_
+or-left true b h = refl
+or-left false b h = absurd (false≢true h)
+
+pub or-right : (a b : Bool) → b ≡ true → (a or b) ≡ true
+unfolding _or_
+or-right true b h = refl
+or-right false b h = h
+
+pub or-use : {C : Type 0} (a b : Bool) → (a or b) ≡ true → (a ≡ true → C) → (b ≡ true → C) → C
+unfolding _or_
+or-use true b h f g = f refl
+or-use false b h f g = g h
+
 pub implies-use : (a b : Bool) → implies a b ≡ true → a ≡ true → b ≡ true
 unfolding implies
 implies-use true b e t = e
@@ -62,6 +77,11 @@ pub implies-intro : (a b : Bool) → (a ≡ true → b ≡ true) → implies a b
 unfolding implies
 implies-intro true b h = h refl
 implies-intro false b h = refl
+
+pub not-implied : (a b : Bool) → implies a b ≡ false → (a ≡ true) × (b ≡ false)
+unfolding implies
+not-implied true b h = (refl, h)
+not-implied false b h = absurd (false≢true (sym h))
 
 -- the code's `&` and `|` are the definitions'
 pub and-is : (a b : Bool) → (a && b) ≡ (a & b)
@@ -89,6 +109,12 @@ all-intro p (suc k) h = and-intro _ _ (all-intro p k (λ i l. h i (omega arith))
 
 pub all-fails : (p : ℕ → Bool) (k i : ℕ) → i < k → p i ≡ false → all p k ≡ false
 all-fails p k i l q = cases (all p k) (λ t. absurd (false≢true (sym q ∙ all-at p k t i l))) (λ t. t)
+
+pub not-all : (p : ℕ → Bool) (k : ℕ) → all p k ≡ false → (d : ℕ) × (d < k) × (p d ≡ false)
+unfolding all _&_
+not-all p zero h = absurd (false≢true (sym h))
+not-all p (suc k) h =
+    cases (all p k) (λ t. (k, omega arith, rw t at h)) (λ t. let z = not-all p k t in let y = z .1 in (z .0, omega arith, z .2))
 
 pub all-same : (p q : ℕ → Bool) (k : ℕ) → ((i : ℕ) → i < k → p i ≡ q i) → all p k ≡ all q k
 unfolding all

@@ -30,7 +30,7 @@ other-power e k q =
 or-bit : (w e k : ℕ) → bitOr w (2 ^ e) / 2 ^ k % 2 ≡ max (w / 2 ^ k % 2) (2 ^ e / 2 ^ k % 2)
 or-bit w e k = ap (λ (x : ℕ). x % 2) (or-shr w (2 ^ e) k) ∙ omega (arith, or-step (w / 2 ^ k) (2 ^ e / 2 ^ k))
 
-pub bit-set : (w e k : ℕ) → bitOf (bitOr w (2 ^ e)) k ≡ (eqb e k || bitOf w k)
+pub bit-set : (w e k : ℕ) → eqb (bitOf (bitOr w (2 ^ e)) k) 1 ≡ (eqb e k || eqb (bitOf w k) 1)
 unfolding bitOf
 bit-set w e k =
     cases (eqb e k)

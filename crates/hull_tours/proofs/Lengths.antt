@@ -3,14 +3,13 @@ use mathlib.Core.List.{List}
 use mathlib.Core.Path.{_≡_, refl, sym, _∙_, subst}
 use Prim.Native.Nat.{ℕ, zero, suc, _+_, _-_, _≤_, _<_}
 use native.Mathlib.Omega.{arith}
-use lib.Bits.{bitXor}
 use lib.ListN.{length}
 use Rattle.hull_links.specs.declared.HullSize.{HullSize}
 use Rattle.hull_links.specs.Walks.{ring, steps}
 use Rattle.hull_links.specs.inner.Tours.{Walk, Toured}
-use Rattle.hull_links.specs.Links.{next, twin, origin, face}
+use Rattle.hull_links.specs.Links.{next, face}
 use Rattle.hull_links.proofs.Orbits.{Going, one-length}
-use Rattle.hull_tours.specs.inner.Found.{Length, OnFace, OnVertex}
+use Rattle.hull_tours.specs.inner.Found.{Length, OnFace}
 
 module _ (step : ℕ → ℕ) (P : ℕ → Type 0) (s fuel : ℕ) where
   pub is-length : (n : ℕ) → n ≤ fuel → Walk step P s n → Length step P s fuel n
@@ -50,10 +49,7 @@ module _ (step start : ℕ → ℕ) (P : ℕ → ℕ → Type 0) (least h k : �
   unfolding steps
   well-started = subst (P f) (sym q) (whole .walked .walks f l .each 0 (whole .walked .walks f l .some))
 
--- ---- what a turn of a walk's loop has read of half-edge e: its face or origin, its next t or its twin
-module _ (s : HullSize) (l : List ℕ) (e got : ℕ) (low : e < s .«half_edges») where
-  pub on-face : (f t : ℕ) → got ≡ face s l e → got ≡ f → t ≡ next s l e → t < s .«half_edges» → OnFace s l f e
-  on-face f t q w p h = record { on = sym q ∙ w; low = low; next-in = subst (λ (x : ℕ). x < s .«half_edges») p h }
-
-  pub on-vertex : (v t : ℕ) → got ≡ origin s l e → got ≡ v → t ≡ twin s l e → t ≡ bitXor e 1 → OnVertex s l v e
-  on-vertex v t q w p h = record { on = sym q ∙ w; low = low; mate = sym p ∙ h }
+-- ---- what a turn of a ring's loop has read of half-edge e: its face and its next t
+pub on-face : (s : HullSize) (l : List ℕ) (e got : ℕ) → e < s .«half_edges» → (f t : ℕ) → got ≡ face s l e → got ≡ f → t ≡ next s l e → t < s .«half_edges»
+    → OnFace s l f e
+on-face s l e got low f t q w p h = record { on = sym q ∙ w; low = low; next-in = subst (λ (x : ℕ). x < s .«half_edges») p h }

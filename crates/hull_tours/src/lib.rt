@@ -3,8 +3,8 @@
 // there are half-edges, every half-edge was passed and tested, once.
 ghost use mathlib.Core.Bool.{true};
 ghost use mathlib.Core.Path.{_≡_};
-ghost use Prim.Native.Nat.{_-_, _<_, _≤_};
-ghost use Rattle.hull_links.specs.Links.{next, turn, LinksFit};
+ghost use Prim.Native.Nat.{_+_, _-_, _*_, _<_, _≤_};
+ghost use Rattle.hull_links.specs.Links.{next, twin, origin, turn, LinksFit};
 ghost use Rattle.hull_tours.specs.inner.Found.{Length, OnFace, OnVertex, Ringed, Fanned};
 use hull_links::HullSize;
 
@@ -58,6 +58,22 @@ pub fn rings_toured(links: &[u8], size: HullSize) -> bool
     ringed == h
 }
 
+// A byte as a number.
+fn wide(x: u8) -> usize
+    ensures { λ r. ⌜ (r ≡ x) × (r < 256) ⌝ }
+{
+    x as usize
+}
+
+// The twin and the origin of half-edge e as one number, the origin 256 times: they stand side by side, so that one test tells both.
+fn twin_and_origin(links: &[u8], size: HullSize, e: usize) -> usize
+    requires { ⌜ LinksFit size (now links) × (e < size .«half_edges») ⌝ }
+    ensures { λ r. ⌜ (r ≡ twin size (now (links .entry)) e + 256 * origin size (now (links .entry)) e) × (twin size (now (links .entry)) e < 256) ⌝ }
+{
+    let at = size.vertices + 4 * e;
+    wide(links[at + 1]) + 256 * wide(links[at + 2])
+}
+
 // `fanned` and how many half-edges the fan of vertex v has from `start` on; 0 where it leaves the vertex or meets a wrong twin. Where the rings were
 // toured, no two half-edges have the same next, so that every fan comes back and no count of steps is needed.
 fn fan_counted(links: &[u8], size: HullSize, v: u8, start: usize, fanned: usize) -> usize
@@ -65,15 +81,12 @@ fn fan_counted(links: &[u8], size: HullSize, v: u8, start: usize, fanned: usize)
     ensures { λ r. ⌜ Length (turn size (now (links .entry))) (OnVertex size (now (links .entry)) v) start (size .«half_edges») (r - fanned)
         × (r ≤ fanned → r ≡ 0) ⌝ }
 {
-    let origin = hull_links::wide(v);
+    let from_v = 256 * wide(v);
     let mut n = fanned;
     let mut e = start;
     loop {
-        if hull_links::origin_of(links, size, e) != origin {
-            return 0;
-        }
         let mate = e ^ 1;
-        if hull_links::twin_of(links, size, e) != mate {
+        if twin_and_origin(links, size, e) != mate + from_v {
             return 0;
         }
         let turned = hull_links::next_of(links, size, mate);

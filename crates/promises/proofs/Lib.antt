@@ -8,6 +8,7 @@ pub mod Refusals
 pub mod Steps
 pub mod Rounds
 pub mod Points
+pub mod Shells
 pub mod Separations
 pub mod Retired
 pub mod Incident

@@ -1,6 +1,7 @@
 pub mod Numbers
 pub mod Sources
 pub mod OneCall
+pub mod Shells
 pub mod Separations
 pub mod Retired
 pub mod Incident

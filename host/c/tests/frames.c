@@ -277,8 +277,10 @@ static int all_are(const uint8_t *bytes, size_t count, uint8_t byte) {
     return 1;
 }
 
+enum { MOST_RULE = 9 };
+
 static struct {
-    long calls, points[CONTACT_MAX_POINTS + 1], statuses[9], rules[9], others;
+    long calls, points[CONTACT_MAX_POINTS + 1], statuses[9], rules[MOST_RULE + 1], others;
     long retired_marked, retired_refused, retired_small; /* by what came of a retired type; small: a capacity below 4 */
     long edge_points, places_in_order, places_not_in_order; /* contacts by their places */
     long next[2][256]; /* accepted calls by the next cache: hit, kind */
@@ -361,6 +363,7 @@ static void hold(const uint8_t *wanted, size_t wanted_len, uint8_t untouched, in
     met.calls++;
     met.points[outcome.contact.count]++;
     met.statuses[outcome.status]++;
+    if (rule_a > MOST_RULE || rule_b > MOST_RULE) stop("a rule that is none", line);
     met.rules[rule_a]++;
     met.rules[rule_b]++;
     if (outcome.status == CONTACT_ACCEPTED && capacity >= CONTACT_MAX_POINTS) met.next[came.cache.hit & 1][came.cache.kind]++;
@@ -418,8 +421,8 @@ static void hold_file(const char *what, const char *frames_name, const char *ans
     for (i = 0; i <= CONTACT_MAX_POINTS; i++) printf(" %ld", met.points[i] / 2);
     printf("; refusals 0 to 6:");
     for (i = 0; i <= 6; i++) printf(" %ld", met.statuses[i] / 2);
-    printf("; rules 0 to 8:");
-    for (i = 0; i <= 8; i++) printf(" %ld", met.rules[i] / 2);
+    printf("; rules 0 to %d:", MOST_RULE);
+    for (i = 0; i <= MOST_RULE; i++) printf(" %ld", met.rules[i] / 2);
     printf("; retired kinds marked %ld, refused %ld, with a capacity below 4 %ld", met.retired_marked / 2, met.retired_refused / 2,
         met.retired_small / 2);
     printf("; places in order %ld, not in order %ld, of edge points %ld\n", met.places_in_order / 2, met.places_not_in_order / 2,
@@ -433,7 +436,7 @@ static void hold_file(const char *what, const char *frames_name, const char *ans
     for (i = 0; i <= 6; i++) {
         if (!met.statuses[i]) stop("a refusal was never met", number);
     }
-    for (i = 0; i <= 8; i++) {
+    for (i = 0; i <= MOST_RULE; i++) {
         if (!met.rules[i]) stop("a rule was never met", number);
     }
     for (i = 2; i <= 4; i++) {
@@ -455,6 +458,8 @@ int main(int count, char **words) {
         int given = i <= CONTACT_CUT_FULL || i == CONTACT_OWNER;
         if ((contact_status_text((uint8_t)i) != NULL) != given) stop("words for a number that is never given, or none for one that is", 0);
         if ((contact_status_remedy((uint8_t)i) != NULL) != given) stop("a remedy for a number that is never given, or none for one that is", 0);
+        if ((contact_rule_text((uint8_t)i) != NULL) != (i <= MOST_RULE)) stop("words for a rule that is none, or none for one that is", 0);
+        if ((contact_rule_remedy((uint8_t)i) != NULL) != (i <= MOST_RULE)) stop("a remedy for a rule that is none, or none for one that is", 0);
     }
     large_stack = stack_of(LARGE_STACK);
     collide_stack = stack_of(CONTACT_COLLIDE_STACK + page);

@@ -1,7 +1,7 @@
 //! Pairs of hulls about each other's surfaces.
 
 use crate::shapes::kinds::COMPACT;
-use crate::shapes::solids::{block, frame, pyramid, two_sided, Solid};
+use crate::shapes::solids::{block, flat, frame, pyramid, split_pyramid, Solid};
 use crate::shapes::{Link, Shape};
 use crate::{convert, inputs, Numbers};
 use oracle::math_functions::*;
@@ -14,10 +14,15 @@ pub struct Pair {
     pub transform: Transform,
 }
 
-/// A polygon of 65 to 122 corners with both its sides, beside a tetrahedron.
+/// A polygon with both its sides, or a pyramid: with a ring of 65 to 125 corners.
 pub fn long_rings(n: &mut Numbers) -> Solid {
-    let apart = [0.0, 0.0, n.between(6.0, 8.0)];
-    two_sided(65 + n.below(58), n.between(0.5, 5.0)).joined(&pyramid(3, 1.0, 1.0).moved(apart))
+    let radius = n.between(0.5, 5.0);
+    if n.below(2) == 0 {
+        return flat(66 + n.below(61), radius);
+    }
+    let sides = 3 + n.below(61);
+    let corners = 65 + n.below(64 - sides);
+    split_pyramid(sides, corners, radius, n.between(0.2, 9.0))
 }
 
 /// The half-edges of a face, from its stored one.

@@ -69,12 +69,7 @@ impl Shape {
             half_edges: solid.faces.iter().map(Vec::len).sum(),
             faces: solid.faces.len(),
         };
-        let lanes = size.vertices.next_multiple_of(4);
-        let mut shape = Shape {
-            numbers: vec![0.0; 6 + 3 * lanes + 4 * size.faces],
-            links: vec![0; size.vertices + 4 * size.half_edges + size.faces],
-            size,
-        };
+        let mut shape = Shape::of_zeros(size);
         shape.set_links(&solid.faces);
         for (number, corner) in solid.corners.iter().enumerate() {
             for (axis, &x) in corner.iter().enumerate() {
@@ -90,6 +85,16 @@ impl Shape {
             shape.numbers[place..place + 4].copy_from_slice(&plane);
         }
         shape
+    }
+
+    /// Lists of fitting lengths.
+    fn of_zeros(size: HullSize) -> Shape {
+        let lanes = size.vertices.next_multiple_of(4);
+        Shape {
+            numbers: vec![0.0; 6 + 3 * lanes + 4 * size.faces],
+            links: vec![0; size.vertices + 4 * size.half_edges + size.faces],
+            size,
+        }
     }
 
     fn set_links(&mut self, faces: &[Vec<usize>]) {
@@ -115,13 +120,49 @@ impl Shape {
     pub fn any(solid: &Solid, n: &mut Numbers) -> Shape {
         let mut shape = Shape::new(&solid.renumbered(n)).with_pairs_renumbered(n);
         shape.store_any(n);
-        shape.pad(match n.below(4) {
-            0 => Padding::First,
-            1 => Padding::Last,
-            2 => Padding::Zeros,
-            _ => Padding::Any(n),
-        });
+        shape.pad_any(n);
         shape
+    }
+
+    /// Both in one record and in a box that holds both. The other's vertices, half-edges and faces come behind the own ones;
+    /// zeros stand in the padding.
+    pub fn joined(&self, other: &Shape) -> Shape {
+        let (a, b) = (self.size, other.size);
+        let mut both = Shape::of_zeros(HullSize {
+            vertices: a.vertices + b.vertices,
+            half_edges: a.half_edges + b.half_edges,
+            faces: a.faces + b.faces,
+        });
+        both.copy_from(self, [0, 0, 0]);
+        both.copy_from(other, [a.vertices, a.half_edges, a.faces]);
+        for axis in 0..3 {
+            both.numbers[axis] = lower(self.numbers[axis], other.numbers[axis]);
+            both.numbers[3 + axis] = higher(self.numbers[3 + axis], other.numbers[3 + axis]);
+        }
+        both
+    }
+
+    /// The other's vertices, half-edges and faces, from these numbers on.
+    fn copy_from(&mut self, other: &Shape, [first_vertex, first_edge, first_face]: [usize; 3]) {
+        for vertex in 0..other.size.vertices {
+            self.links[first_vertex + vertex] = other.links[vertex] + first_edge as u8;
+            for axis in 0..3 {
+                let place = self.coordinate(axis, first_vertex + vertex);
+                self.numbers[place] = other.numbers[other.coordinate(axis, vertex)];
+            }
+        }
+        for edge in 0..other.size.half_edges {
+            let [next, twin, origin, face] = Link::ALL.map(|link| other.get(edge, link));
+            let (next, twin) = (first_edge + next, first_edge + twin);
+            let (origin, face) = (first_vertex + origin, first_face + face);
+            self.set_all(first_edge + edge, [next, twin, origin, face]);
+        }
+        for face in 0..other.size.faces {
+            let place = self.face_edge(first_face + face);
+            self.links[place] = other.links[other.face_edge(face)] + first_edge as u8;
+            let (place, from) = (self.plane(first_face + face), other.plane(face));
+            self.numbers[place..place + 4].copy_from_slice(&other.numbers[from..from + 4]);
+        }
     }
 
     /// The same hull with its pairs of half-edges numbered anew, and perhaps turned; twins stay side by side.
@@ -149,6 +190,15 @@ impl Shape {
         for edge in n.order(self.size.half_edges) {
             self.store(edge);
         }
+    }
+
+    pub fn pad_any(&mut self, n: &mut Numbers) {
+        self.pad(match n.below(4) {
+            0 => Padding::First,
+            1 => Padding::Last,
+            2 => Padding::Zeros,
+            _ => Padding::Any(n),
+        });
     }
 
     pub fn pad(&mut self, mut padding: Padding) {

@@ -1,6 +1,7 @@
 //! Where a hull breaks a rule, in words. Which rule it is says the library; to find the place is a convenience of the host
 //! and not proved.
 
+use crate::shells::{in_words, lowest};
 use crate::{HullLists, HullSize, Rule};
 use std::collections::HashMap;
 use std::fmt;
@@ -26,6 +27,7 @@ impl Broken {
             Rule::Rings => links.broken_ring(),
             Rule::Fans => links.broken_fan(),
             Rule::Numbers => wrong_number(lists, links),
+            Rule::Shell => links.other_shell().or_else(|| hole(lists.size)),
         };
         let place = place.unwrap_or_else(|| rule.meaning().into());
         Broken { rule, place }
@@ -229,6 +231,33 @@ impl<'a> Links<'a> {
             ))
         })
     }
+
+    fn other_shell(self) -> Option<String> {
+        let shells = lowest(self.lists.size.half_edges, |e| [self.next(e), self.twin(e)]);
+        let (count, missed) = (in_words(shells.len()), shells.get(1)?);
+        Some(format!(
+            "{count} shells: half-edge {missed} cannot be reached from half-edge 0"
+        ))
+    }
+}
+
+/// Of one shell whose rings and fans are whole: each hole through it takes 2 from the sum.
+fn hole(size: HullSize) -> Option<String> {
+    let HullSize {
+        vertices,
+        half_edges,
+        faces,
+    } = size;
+    let edges = half_edges / 2;
+    let sum = vertices as isize - edges as isize + faces as isize;
+    let holes = match sum {
+        2 => return None,
+        0 => "a hole".into(),
+        _ => format!("{} holes", (2 - sum) / 2),
+    };
+    Some(format!(
+        "V - H/2 + F is {vertices} - {edges} + {faces} = {sum}, not 2: the shell has {holes} through it"
+    ))
 }
 
 /// Within so much either way; not so of a NaN.

@@ -130,7 +130,8 @@ impl HullBuilder {
     /// The tests come in this order, each of them of all vertices or all faces before the next:
     ///
     /// 1. the coordinates; how many vertices and faces there are; each ring by itself; how many half-edges there are;
-    /// 2. no two rings go through a side in the same direction; each side has its opposite; each vertex is in a ring;
+    /// 2. no two rings go through a side in the same direction; each side has its opposite; each vertex is in a ring; all
+    ///    faces make one shell; there is no hole through it;
     /// 3. no edge is too short; each face has an area, and is flat;
     /// 4. the hull has a volume, and is not inside out: this is told of the first face that is wound clockwise, never
     ///    of a dent in a hull whose rings are right;

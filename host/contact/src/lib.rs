@@ -96,6 +96,7 @@ mod broken;
 mod builder;
 mod hull;
 mod linked;
+mod shells;
 
 /// Whether the linked library has the records of this wrapper. A host asks when it starts, to say so in its own way; every
 /// other function here panics with the same words where it has not, before anything is called.

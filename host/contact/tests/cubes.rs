@@ -1,7 +1,7 @@
 //! Document 01's runs through the wrapper: two cubes of half-size 1, and what the wrapper says of refusals, retired types,
 //! places and lengths.
 
-use cases::shapes::solids::{frustum, OCTAGON};
+use cases::shapes::solids::{block, frustum, OCTAGON};
 use cases::shapes::Shape;
 use contact::*;
 
@@ -277,6 +277,34 @@ fn rules() {
     );
     let outcome = collide(&good.hull(), &good.hull(), at(2.0), &mut cache);
     assert_eq!(Refused::of(&outcome, &good.hull(), &good.hull()), None);
+}
+
+/// A record of two boxes far apart, as a scanner wrote it: refused as A and as B.
+#[test]
+fn two_shells() {
+    let (cube, solid) = (Cube::new(), block([1.0; 3]));
+    let two = Shape::new(&solid.joined(&solid.clone().moved([50.0, 0.0, 0.0])));
+    let (good, two) = (cube.hull(), Hull::from(two.lent()));
+    assert_eq!(two.check(), Err(Rule::Shell));
+    for (a, b, number, name) in [(&two, &good, 1, 'A'), (&good, &two, 2, 'B')] {
+        let given = SatCache {
+            index_b: 7,
+            ..SatCache::EMPTY
+        };
+        let mut cache = given;
+        let outcome = collide(a, b, at(2.0), &mut cache);
+        assert_eq!((outcome.status, outcome.contact), (number, Contact::EMPTY));
+        assert_eq!(cache, given);
+        let refused = Refused::of(&outcome, a, b).expect("it is refused");
+        assert_eq!(
+            refused.to_string(),
+            format!(
+                "refusal {number}: hull {name} breaks a rule: H9 is broken: two shells: half-edge 24 cannot be reached \
+                 from half-edge 0; what to do: give each closed shell a record of its own, and cut a solid with a hole \
+                 into pieces without one"
+            )
+        );
+    }
 }
 
 /// The same calls on many threads at once, and on a thread with no more stack than is stated.

@@ -1,11 +1,14 @@
 //! The place that breaks a rule: found in every hull that the library says breaks one, and told as it is.
 
-use cases::shapes::breaks::break_rule;
+use cases::shapes::breaks::{break_rule, RULES};
 use cases::shapes::kinds::COMPACT;
-use cases::shapes::solids::block;
+use cases::shapes::solids::{block, frustum, polygon, Solid};
 use cases::shapes::{Link, Shape};
 use cases::Numbers;
-use contact::{Hull, Rule};
+use contact::{Hull, HullSize, Rule};
+use shells::{grown_together, square_ring};
+
+mod shells;
 
 fn cube() -> Shape {
     Shape::new(&block([1.0; 3]))
@@ -23,6 +26,7 @@ fn place(shape: &Shape, rule: Rule) -> String {
 #[test]
 fn every_rule_has_its_place() {
     let mut n = Numbers::new(1);
+    assert_eq!(Rule::ALL.len(), usize::from(RULES));
     for rule in Rule::ALL {
         for (_, make) in COMPACT.into_iter().cycle().take(1400) {
             let mut shape = Shape::any(&make(&mut n), &mut n);
@@ -149,6 +153,62 @@ fn places() {
         change(&mut shape);
         assert_eq!(place(&shape, rule), words);
     }
+}
+
+/// Document 02's hulls of two shells and with a hole, and some more; two boxes that are grown together are good.
+#[test]
+fn one_shell() {
+    let says = |solid: &Solid| place(&Shape::new(solid), Rule::Shell);
+    let (cube, ring) = (block([1.0; 3]), square_ring());
+    let beside = |x: f64| block([1.0; 3]).moved([x, 0.0, 0.0]);
+    let missed = |edge| format!("two shells: half-edge {edge} cannot be reached from half-edge 0");
+    let two = cube.joined(&beside(50.0));
+    assert_eq!(says(&two), missed(24));
+    assert_eq!(says(&cube.joined(&cube)), missed(24));
+    assert_eq!(says(&cube.joined(&ring)), missed(24));
+    let prism = frustum(&polygon(6, 1.0), 1.0, 1.0);
+    assert_eq!(says(&prism.joined(&beside(50.0))), missed(36));
+    assert_eq!(
+        says(&two.joined(&beside(100.0))),
+        "3 shells: half-edge 24 cannot be reached from half-edge 0"
+    );
+
+    assert_eq!(
+        says(&ring),
+        "V - H/2 + F is 16 - 32 + 16 = 0, not 2: the shell has a hole through it"
+    );
+    let rings = grown_together(&ring, 1, &square_ring().moved([4.0, 0.0, 0.0]), 3);
+    assert_eq!(
+        says(&rings),
+        "V - H/2 + F is 28 - 60 + 30 = -2, not 2: the shell has 2 holes through it"
+    );
+
+    let long = Shape::new(&grown_together(&cube, 1, &beside(2.0), 0));
+    let HullSize {
+        vertices,
+        half_edges,
+        faces,
+    } = long.size;
+    assert_eq!((vertices, half_edges, faces), (12, 40, 10));
+    assert_eq!(Hull::from(long.lent()).broken(), None);
+}
+
+/// However the half-edges are numbered, the first that half-edge 0 does not reach is told.
+#[test]
+fn mixed_shells() {
+    let mut n = Numbers::new(2);
+    let two = block([1.0; 3]).joined(&block([1.0; 3]).moved([50.0, 0.0, 0.0]));
+    let mut told = std::collections::HashSet::new();
+    for _ in 0..200 {
+        let shape = Shape::any(&two, &mut n);
+        let is_far = |edge| shape.vertex(shape.get(edge, Link::Origin))[0] > 25.0;
+        let missed = (0..48).find(|&edge| is_far(edge) != is_far(0));
+        let missed = missed.expect("a half-edge of the other cube");
+        let words = format!("two shells: half-edge {missed} cannot be reached from half-edge 0");
+        assert_eq!(place(&shape, Rule::Shell), words);
+        told.insert(missed);
+    }
+    assert!(told.len() > 3, "{told:?}");
 }
 
 /// The lanes behind the vertices are told as padding.

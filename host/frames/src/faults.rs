@@ -9,8 +9,10 @@ use crate::{hex, wanted, LONGEST_LINE};
 use cases::calls::Given;
 use records::SatCache;
 
+mod shells;
+
 /// What is answered to a line with its end, where it has one; none where nothing is printed.
-type Answers = fn(&[u8]) -> Option<Vec<u8>>;
+pub type Answers = fn(&[u8]) -> Option<Vec<u8>>;
 
 /// The right answer.
 pub fn right(line: &[u8]) -> Option<Vec<u8>> {
@@ -92,7 +94,8 @@ fn point(number: usize) -> std::ops::Range<usize> {
     from..from + A_POINT
 }
 
-pub const FAULTS: [(&str, Answers); 42] = [
+/// Those about H9 stand apart.
+const FAULTS: [(&str, Answers); 42] = [
     ("low byte first in a root", |line| {
         let mut answer = right(line)?;
         if answer[0] == ROOT + 0x80 {
@@ -346,8 +349,14 @@ pub const FAULTS: [(&str, Answers); 42] = [
     }),
 ];
 
+/// Every fault: its name, and the answers with it.
+pub fn all() -> impl Iterator<Item = (&'static str, Answers)> {
+    FAULTS.into_iter().chain(shells::FAULTS)
+}
+
 /// The answers with the fault of this name.
 pub fn named(name: &str) -> Option<Answers> {
-    let fault = FAULTS.into_iter().find(|&(own, _)| own == name);
-    fault.map(|(_, answers)| answers)
+    all()
+        .find(|&(own, _)| own == name)
+        .map(|(_, answers)| answers)
 }

@@ -1,13 +1,12 @@
 //! Calls of every kind on the largest hulls there are: what a call needs of the stack is seen with them. The stored frames
 //! have small ones.
 
-use crate::codec::call_frame;
-use crate::sorts::calls::on_pair;
+use crate::sorts::calls::{frame, given, on_pair};
 use crate::Frame;
-use cases::calls::{broken, caches, Given};
+use cases::calls::{broken, caches};
 use cases::pairs::{placed, turned_or_not, Pair};
-use cases::shapes::breaks::break_rule;
-use cases::shapes::kinds::{KindOfRadius, LARGEST};
+use cases::shapes::breaks::{break_rule, RULES};
+use cases::shapes::kinds::{KindOfRadius, LARGEST, MOST_FACES, PYRAMIDS, SHELLS};
 use cases::shapes::{Padding, Shape};
 use cases::Numbers;
 use records::{HullSize, SatCache};
@@ -20,9 +19,12 @@ const PAIRS: usize = 3;
 const PADDED: usize = 100;
 const OVERFULL: usize = 4;
 
+/// How many calls are looked through for one that is refused by 6.
+const TRIES: usize = 10_000;
+
 /// Every two kinds against each other, with cached axes, a retired type and caches carried from call to call; then each rule
-/// broken by A and by B, the transform's, a cache out of range, a small capacity, padding that may win the search, and cuts
-/// that put out too many corners.
+/// broken by A and by B, the transform's, a cache out of range, a small capacity; each kind that is not one shell; padding
+/// that may win the search, and cuts that put out too many corners.
 pub fn frames() -> Vec<Frame> {
     let mut n = Numbers::new(SEED);
     let mut frames = Vec::new();
@@ -35,6 +37,7 @@ pub fn frames() -> Vec<Frame> {
         }
         frames.extend(refused(a, &mut n));
     }
+    frames.extend(shells(&mut n));
     frames.extend((0..PADDED).map(|_| padded(&mut n)));
     frames.extend((0..OVERFULL).map(|_| overfull(&mut n)));
     frames
@@ -50,28 +53,14 @@ fn any_pair([a, b]: [KindOfRadius; 2], n: &mut Numbers) -> Pair {
     placed(a, b, n)
 }
 
-fn given(pair: Pair, capacity: i32, cache: SatCache) -> Given {
-    Given {
-        capacity,
-        transform: cases::convert::our_transform(pair.transform),
-        a: pair.a,
-        b: pair.b,
-        cache,
-    }
-}
-
-fn frame(given: &Given) -> Frame {
-    Frame::Bytes(call_frame(&given.call()))
-}
-
 fn refused(kind: KindOfRadius, n: &mut Numbers) -> Vec<Frame> {
-    let good = |n: &mut Numbers| given(any_pair([kind; 2], n), 4, SatCache::EMPTY);
+    let good = |n: &mut Numbers| given(any_pair([kind; 2], n), SatCache::EMPTY);
     let mut frames = Vec::new();
     for side in 0..2 {
         let mut given = good(n);
         *given.side(side) = one_vertex_more();
         frames.push(frame(&given));
-        for rule in 2..=8 {
+        for rule in 2..=RULES {
             let mut given = good(n);
             break_rule(rule, given.side(side), n);
             frames.push(frame(&given));
@@ -92,6 +81,19 @@ fn refused(kind: KindOfRadius, n: &mut Numbers) -> Vec<Frame> {
     frames
 }
 
+/// Each kind as A and as B, beside one that has the most faces.
+fn shells(n: &mut Numbers) -> Vec<Frame> {
+    let mut frames = Vec::new();
+    for kind in &SHELLS {
+        for side in 0..2 {
+            let mut given = given(any_pair([MOST_FACES; 2], n), SatCache::EMPTY);
+            *given.side(side) = Shape::any(&(kind.solid)(n), n);
+            frames.push(frame(&given));
+        }
+    }
+    frames
+}
+
 /// Lists of zeros, as long as a hull's with one vertex more than any may have.
 fn one_vertex_more() -> Shape {
     let size = HullSize {
@@ -106,25 +108,26 @@ fn one_vertex_more() -> Shape {
     }
 }
 
-/// Of the kinds whose vertices are no multiple of four, with one point far outside in the lanes past the last.
+/// Of two kinds whose vertices are no multiple of four, with one point far outside in the lanes past the last.
 fn padded(n: &mut Numbers) -> Frame {
-    let odd = [LARGEST[2], LARGEST[4]];
+    let odd = [MOST_FACES, PYRAMIDS];
     let kinds = [odd[n.below(2)], odd[n.below(2)]];
     let mut pair = any_pair(kinds, n);
     for shape in [&mut pair.a, &mut pair.b] {
         let point = [0.0; 3].map(|_: f32| 9.0 * n.fraction());
         shape.pad(Padding::Point(point));
     }
-    frame(&given(pair, 4, SatCache::EMPTY))
+    frame(&given(pair, SatCache::EMPTY))
 }
 
 /// The first of many that is refused by 6.
 fn overfull(n: &mut Numbers) -> Frame {
-    loop {
+    let any = |n: &mut Numbers| {
         let kind = LARGEST[n.below(LARGEST.len())];
-        let given = given(any_pair([kind, LARGEST[4]], n), 4, SatCache::EMPTY);
-        if given.call().wanted().outcome.status == 6 {
-            return frame(&given);
-        }
-    }
+        given(any_pair([kind, PYRAMIDS], n), SatCache::EMPTY)
+    };
+    let found = (0..TRIES)
+        .map(|_| any(n))
+        .find(|given| given.call().wanted().outcome.status == 6);
+    frame(&found.expect("one of so many puts out a 65th corner"))
 }

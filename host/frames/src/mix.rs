@@ -8,6 +8,7 @@ use crate::Frame;
 #[cfg(rust_text)]
 use cases::calls::placed::Placed;
 use cases::met;
+use cases::shapes::breaks::RULES;
 use records::SatCache;
 
 /// Types that are told apart: 0 to 8, and all above together.
@@ -24,7 +25,7 @@ pub struct Mix {
     /// Calls by their status.
     statuses: [u64; 7],
     /// Refused hulls by the rule that is broken first.
-    rules: [u64; 9],
+    rules: [u64; RULES as usize + 1],
     /// Capacities below 4.
     without_work: u64,
     /// Other accepted calls: by the type that they were given, hits by it, by the type that they return, by points.
@@ -181,7 +182,7 @@ impl Mix {
             ("left out for want of the text", self.untold, 0),
         ]);
         println!("first broken rule of a refused hull");
-        let [_, h1, h2, h3, h4, h5, h6, h7, h8] = self.rules;
+        let [_, h1, h2, h3, h4, h5, h6, h7, h8, h9] = self.rules;
         good &= met(&[
             ("H1", h1, 1),
             ("H2", h2, 1),
@@ -191,6 +192,7 @@ impl Mix {
             ("H6", h6, 1),
             ("H7", h7, 1),
             ("H8", h8, 1),
+            ("H9", h9, 1),
         ]);
         println!("caches of accepted calls");
         good &= types(&self.types, [1; TYPES]);

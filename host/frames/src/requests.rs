@@ -25,11 +25,12 @@ const NONE: [u8; 4] = [UNUSED_PLACE; 4];
 const IN_ORDER: [u8; 4] = [0, 1, 2, 3];
 
 /// By the letter of the request, in the order in which they landed.
-pub fn by_request() -> [(char, Vec<Example>); 3] {
+pub fn by_request() -> [(char, Vec<Example>); 4] {
     [
         ('k', finite_separations().into()),
         ('j', retired_types().into()),
         ('d', places().into()),
+        ('c', shells().into()),
     ]
 }
 
@@ -377,6 +378,147 @@ fn corner_lost(cache: SatCache) -> Vec<u8> {
         },
         cache,
     })
+}
+
+/// Request c: a hull is one closed shell without a hole.
+fn shells() -> [Example; 7] {
+    let (cube, ring) = (block([1.0; 3]), square_ring());
+    let beside = |by: f64| block([1.0; 3]).moved([by, 0.0, 0.0]);
+    let one = hull(&cube);
+    let far = hull(&cube.joined(&beside(50.0)));
+    let both = planed(&cube.joined(&ring.clone().moved([6.0, 0.0, 0.0])));
+    let mut long = met(&cube, &beside(2.0));
+    // The face +x of the first and the face -x of the second, which lie on each other.
+    long.faces.remove(cube.faces.len());
+    long.faces.remove(1);
+    let at_corner = met(&cube, &cube.clone().moved([2.0; 3]));
+    let ask = |a: &Shape, b: &Shape, x: f32| frame(4, a, b, [x, 0.0, 0.0], SatCache::EMPTY);
+    let refused = |words, frame, status| Example {
+        words,
+        frame,
+        status,
+        cache: SatCache::EMPTY,
+        count: 0,
+        places: NONE,
+        retired: 0,
+    };
+    [
+        refused(
+            "c 1: two boxes 50 apart in one record (V 16, H 48, F 12) as A: rule 9",
+            ask(&far, &one, 2.0),
+            1,
+        ),
+        refused("c 2: the same as B", ask(&one, &far, 2.0), 2),
+        refused(
+            "c 3: a square ring (V 16, H 64, F 16): one shell, but V - H/2 + F = 0",
+            ask(&planed(&ring), &one, 4.0),
+            1,
+        ),
+        refused(
+            "c 4: a box and a square ring in one record (V 24, H 88, F 22): V - H/2 + F = 2, and two shells",
+            ask(&both, &one, 4.0),
+            1,
+        ),
+        Example {
+            words: "c 5: two boxes made one by a common face that is taken out (V 12, H 40, F 10): accepted",
+            frame: ask(&hull(&long), &one, 5.0),
+            status: 0,
+            cache: SatCache {
+                index_a: 5,
+                ..axis(2, 0x3f80_0000)
+            },
+            count: 0,
+            places: NONE,
+            retired: 0,
+        },
+        refused(
+            "c 6: two boxes that share the number of one vertex: refused as before, by H7",
+            ask(&hull(&at_corner), &one, 2.0),
+            1,
+        ),
+        Example {
+            words: "c 7: the cube with its numbering changed: accepted",
+            frame: ask(&numbered_anew(), &one, 2.0),
+            status: 0,
+            cache: SatCache {
+                index_a: 2,
+                ..axis(3, 0)
+            },
+            count: 4,
+            places: IN_ORDER,
+            retired: 0,
+        },
+    ]
+}
+
+/// Both under one list of corners and one of faces; a corner of the second that lies on one of the first is that one.
+fn met(first: &Solid, second: &Solid) -> Solid {
+    let mut both = first.clone();
+    let numbers: Vec<usize> = second
+        .corners
+        .iter()
+        .map(|corner| {
+            let own = first.corners.iter().position(|own| own == corner);
+            own.unwrap_or_else(|| {
+                both.corners.push(*corner);
+                both.corners.len() - 1
+            })
+        })
+        .collect();
+    let renamed = |ring: &Vec<usize>| ring.iter().map(|&corner| numbers[corner]).collect();
+    both.faces.extend(second.faces.iter().map(renamed));
+    both
+}
+
+/// V 16, H 64, F 16: a ring of four blocks round a square hole, its corners at radius 2 and 1. They are numbered the outer
+/// ones above, the outer ones below, the inner ones above, the inner ones below.
+fn square_ring() -> Solid {
+    let corners = [(2.0, 0.5), (2.0, -0.5), (1.0, 0.5), (1.0, -0.5)].map(|(radius, z)| {
+        let half_steps = polygon(8, radius).into_iter().skip(1).step_by(2);
+        half_steps.map(move |[x, y]| [x, y, z])
+    });
+    let side = |here: usize| {
+        let there = (here + 1) % 4;
+        let across =
+            |from: usize, to: usize| vec![from + here, from + there, to + there, to + here];
+        [across(4, 0), across(8, 12), across(0, 8), across(12, 4)]
+    };
+    Solid {
+        corners: corners.into_iter().flatten().collect(),
+        faces: (0..4).flat_map(side).collect(),
+    }
+}
+
+/// The cube of half-size 1 with other numbers for its vertices, half-edges and faces, and with other stored edges: of each
+/// face its ring, which begins with the stored edge, each half-edge with its origin.
+fn numbered_anew() -> Shape {
+    const RINGS: [[(usize, usize); 4]; 6] = [
+        [(19, 2), (0, 4), (11, 6), (13, 7)],
+        [(4, 3), (12, 2), (22, 7), (21, 0)],
+        [(7, 6), (14, 1), (23, 0), (10, 7)],
+        [(2, 5), (6, 1), (1, 6), (9, 4)],
+        [(5, 2), (16, 3), (8, 5), (18, 4)],
+        [(3, 1), (17, 5), (20, 3), (15, 0)],
+    ];
+    const VERTEX_EDGES: [u8; 8] = [21, 14, 5, 16, 0, 8, 7, 13];
+    let corners = block([1.0; 3]).corners;
+    let mut cube = hull(&Solid {
+        corners: [0, 4, 3, 2, 7, 6, 5, 1]
+            .map(|old: usize| corners[old])
+            .into(),
+        faces: RINGS
+            .map(|ring| ring.map(|(_, origin)| origin).into())
+            .into(),
+    });
+    for (face, ring) in RINGS.into_iter().enumerate() {
+        for (place, (edge, origin)) in ring.into_iter().enumerate().rev() {
+            let (next, _) = ring[(place + 1) % 4];
+            cube.set_all(edge, [next, edge ^ 1, origin, face]);
+            cube.store(edge);
+        }
+    }
+    cube.links[..8].copy_from_slice(&VERTEX_EDGES);
+    cube
 }
 
 /// The solid's hull, its planes worked out from the corners as they are before they are rounded.

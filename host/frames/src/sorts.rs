@@ -13,6 +13,7 @@ pub(crate) mod calls;
 mod lengths;
 mod lines;
 pub mod marked;
+pub(crate) mod shells;
 mod small;
 
 /// How many turns of its own a sort has in a unit.
@@ -66,6 +67,12 @@ const OWN: [Named; 18] = [
     ("document 01's runs", marked::runs),
 ];
 
+pub(crate) const NOT_ONE_SHELL: [Named; 3] = [
+    ("hulls that are not one shell", shells::alone),
+    ("not one shell, beside other faults", shells::beside),
+    ("near those that are not one shell", shells::near),
+];
+
 #[cfg(rust_text)]
 const CARRIED: [Named; 1] = [("settled logs, caches carried", calls::settled)];
 
@@ -109,6 +116,7 @@ impl Frames {
         let first = sorts.len();
         #[cfg(rust_text)]
         sorts.extend([cases::calls::more::BANDS].map(of_pairs));
+        sorts.extend(NOT_ONE_SHELL.map(named));
         Frames { seed, sorts, first }
     }
 

@@ -3,7 +3,6 @@
 
 use cases::calls::{Answer, Call};
 use frames::codec::LONGEST_ANSWER;
-use frames::faults::FAULTS;
 use frames::fuzz::Fuzz;
 use frames::library::{self, Library};
 use frames::sorts::Frames;
@@ -35,7 +34,7 @@ fn a_right_program_is_right() {
 
 #[test]
 fn each_fault_of_a_program_is_told() {
-    for (name, _) in FAULTS {
+    for (name, _) in faults::all() {
         let (different, _) = run(Some(name));
         assert!(different > 0, "{name}");
     }
@@ -148,9 +147,21 @@ fn faults_of_a_library_are_told() {
         "a place doubled",
         "the scalar of a quaternion first",
         "any owner flipped",
+        "H9 not tested",
+        "half-edges reached by next alone",
     ] {
         let library = || StandIn { fault, ..RIGHT };
         assert!(held(library()) > 0 && fuzzed(library()) > 0, "{fault}");
+    }
+    for fault in [
+        "H9 of hull B not tested",
+        "V - H/2 + F alone",
+        "half-edges reached alone",
+        "refusal 1 where B breaks H9",
+        "H9 after the transform",
+        "H9 with a capacity below 4",
+    ] {
+        assert!(held(StandIn { fault, ..RIGHT }) > 0, "{fault}");
     }
     let shortens = || StandIn {
         shortens: true,

@@ -2,6 +2,10 @@
 #![cfg(rust_text)]
 
 use cases::calls::Given;
+use cases::shapes::breaks::RULES;
+use cases::shapes::kinds::SHELLS;
+use cases::shapes::solids::block;
+use cases::shapes::{Link, Shape};
 use frames::codec::{decode, Asked, COUNT, NEXT_CACHE, PLACES, RETIRED, STATUS, TYPE};
 use frames::{hex, stored, wanted};
 use records::SatCache;
@@ -20,7 +24,7 @@ fn read(name: &str) -> Vec<u8> {
 
 #[test]
 fn files_are_those_that_store_writes() {
-    let (input, output) = stored::files();
+    let (input, output) = stored::files(&read("stdin"));
     assert!(read("stdin") == input && read("stdout") == output);
 }
 
@@ -78,7 +82,7 @@ fn all_that_must_be_is_stored() {
         let rules: HashSet<u8> = refused
             .map(|(line, _)| given(line).side(side).broken_rule())
             .collect();
-        assert_eq!(rules, HashSet::from_iter(1..=8), "hull {side}");
+        assert_eq!(rules, HashSet::from_iter(1..=RULES), "hull {side}");
     }
     let accepted = lines
         .iter()
@@ -99,6 +103,67 @@ fn all_that_must_be_is_stored() {
             "{count} points"
         );
     }
+}
+
+/// How many shells the hull has, where next and twin lead from one half-edge to others, and V - H/2 + F.
+fn shells_and_euler(hull: &Shape) -> (usize, i32) {
+    let size = hull.size;
+    let mut shells = 0;
+    let mut reached = HashSet::new();
+    for first in 0..size.half_edges {
+        shells += usize::from(!reached.contains(&first));
+        let mut waiting = vec![first];
+        while let Some(edge) = waiting.pop() {
+            if reached.insert(edge) {
+                waiting.extend([Link::Next, Link::Twin].map(|link| hull.get(edge, link)));
+            }
+        }
+    }
+    let euler = size.vertices as i32 - size.half_edges as i32 / 2 + size.faces as i32;
+    (shells, euler)
+}
+
+/// Each kind that is not one shell as A and as B; as both; beside a transform and a cache that break their rules; and with a
+/// capacity below 4, where it is not looked at.
+#[test]
+fn shells_are_stored() {
+    let mut met = HashSet::new();
+    let (mut both, mut beside, mut not_looked_at) = (0, HashSet::new(), 0);
+    for (mut given, answer) in calls() {
+        let rules = [given.a.broken_rule(), given.b.broken_rule()];
+        if answer[STATUS] == 0 {
+            assert!(rules == [0, 0] || given.capacity < 4);
+            not_looked_at += u32::from(rules.contains(&9));
+            continue;
+        }
+        both += u32::from(rules == [9, 9]);
+        let Some(side) = usize::from(answer[STATUS])
+            .checked_sub(1)
+            .filter(|&side| side < 2)
+        else {
+            continue;
+        };
+        if rules[side] != 9 {
+            continue;
+        }
+        met.insert((side, shells_and_euler(given.side(side))));
+        given.a = Shape::new(&block([1.0; 3]));
+        given.b = given.a.clone();
+        beside.insert((side, given.call().refusal()));
+    }
+    for kind in SHELLS {
+        let euler = 2 * kind.shells as i32 - 2 * kind.holes as i32;
+        for side in 0..2 {
+            let stored = met.contains(&(side, (kind.shells, euler)));
+            assert!(stored, "{} as hull {side}", kind.name);
+        }
+    }
+    assert!(both > 0 && not_looked_at > 0, "{both} {not_looked_at}");
+    let each = |side| [0, 3, 4].map(|refusal| (side, refusal));
+    assert_eq!(
+        beside,
+        HashSet::from_iter([0, 1].into_iter().flat_map(each))
+    );
 }
 
 /// Each retired type, accepted with the mark, and with a capacity below 4 without; and such a type under each refusal that

@@ -1,4 +1,4 @@
-//! The rules H1 to H8 of a hull by their numbers: what breaks each, and what to do about it.
+//! The rules H1 to H9 of a hull by their numbers: what breaks each, and what to do about it.
 
 use std::fmt;
 
@@ -14,10 +14,11 @@ pub enum Rule {
     Rings = 6,
     Fans = 7,
     Numbers = 8,
+    Shell = 9,
 }
 
 impl Rule {
-    pub const ALL: [Rule; 8] = [
+    pub const ALL: [Rule; 9] = [
         Rule::Sizes,
         Rule::Ranges,
         Rule::Twins,
@@ -26,9 +27,11 @@ impl Rule {
         Rule::Rings,
         Rule::Fans,
         Rule::Numbers,
+        Rule::Shell,
     ];
 
-    /// The rule of this number; none where it is 0. The library gives no number above 8.
+    /// The rule of this number; none where it is 0, and none where it is above 9, which the library never gives: only 0 says
+    /// that a hull is good.
     #[inline]
     pub fn of_number(number: u8) -> Option<Rule> {
         let place = usize::from(number).checked_sub(1)?;
@@ -50,6 +53,7 @@ impl Rule {
             Rule::Rings => "a face's stored edge is not its own, or its ring is shorter than 3 or misses a half-edge",
             Rule::Fans => "a vertex's stored edge starts elsewhere, or its fan misses a half-edge that starts there",
             Rule::Numbers => "a number is not finite or beyond its limit, a normal is not of length 1, or an edge is too short",
+            Rule::Shell => "there are two shells or more, or the one has a hole through it: V - H/2 + F is not 2",
         }
     }
 
@@ -64,6 +68,7 @@ impl Rule {
             Rule::Rings => "store for each face a half-edge of its ring, and give a face with two rings two numbers",
             Rule::Fans => "store for each vertex a half-edge that starts there, and give a corner where two fans meet two vertices",
             Rule::Numbers => "keep coordinates, padding and box within 4096, offsets within 8192, vertices in the box, edges above 1/1024",
+            Rule::Shell => "give each closed shell a record of its own, and cut a solid with a hole into pieces without one",
         }
     }
 }

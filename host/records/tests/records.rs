@@ -121,8 +121,11 @@ fn one_wording() {
 #[test]
 fn rules() {
     assert_eq!(Rule::of_number(0), None);
-    assert_eq!(Rule::of_number(9), None);
-    for number in 1..=8 {
+    for number in 10..=255 {
+        assert_eq!(Rule::of_number(number), None, "{number}");
+    }
+    assert_eq!(Rule::ALL.len(), 9);
+    for number in 1..=9 {
         let rule = Rule::of_number(number).expect("a rule");
         assert_eq!(rule.number(), number);
         let words = rule.to_string();

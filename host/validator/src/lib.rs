@@ -1,5 +1,5 @@
-//! The second validator, written from document 01 alone: its rules for a hull and for a transform, one function a rule
-//! with the paper's sentence above it. The runs hold the proved validator to it.
+//! The second validator, written from the documents alone: document 01's rules for a hull and for a transform and document
+//! 02's H9, one function a rule with the paper's sentence above it. The runs hold the proved validator to it.
 
 /// No hull has more half-edges.
 const MOST_HALF_EDGES: usize = 256;
@@ -43,6 +43,8 @@ pub fn first_broken_rule(
         7
     } else if !floats_fit(&hull) {
         8
+    } else if !one_shell(&hull) {
+        9
     } else {
         0
     }
@@ -232,6 +234,31 @@ fn floats_fit(hull: &Hull) -> bool {
         && (0..3).all(inside)
         && hull.planes.iter().all(plane_fits)
         && (0..hull.half_edges.len()).step_by(2).all(long_enough)
+}
+
+/// H9. "Every half-edge can be reached from half-edge 0 by next and twin, and V - H/2 + F = 2."
+fn one_shell(hull: &Hull) -> bool {
+    let (vertices, faces) = (hull.vertex_edges.len(), hull.face_edges.len());
+    all_reached(hull) && vertices + faces == hull.half_edges.len() / 2 + 2
+}
+
+/// Each half-edge that is reached waits once, until its next and its twin are looked at.
+fn all_reached(hull: &Hull) -> bool {
+    let mut reached = [false; MOST_HALF_EDGES];
+    let mut waiting = [0; MOST_HALF_EDGES];
+    reached[0] = true;
+    let (mut looked_at, mut found) = (0, 1);
+    while looked_at < found {
+        let edge = waiting[looked_at];
+        for other in [hull.next(edge), hull.twin(edge)] {
+            if !std::mem::replace(&mut reached[other], true) {
+                waiting[found] = other;
+                found += 1;
+            }
+        }
+        looked_at += 1;
+    }
+    found == hull.half_edges.len()
 }
 
 /// Not so for a NaN.

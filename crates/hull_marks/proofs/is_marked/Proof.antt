@@ -1,7 +1,7 @@
 -- The word shifted by the bit's place is odd where the bit is set.
 use mathlib.Core.Path.{refl}
 use borrow.Author.Needs.{needs}
-use Rattle.hull_marks.specs.inner.Marks.{bitOf, isMarked}
+use Rattle.hull_marks.specs.inner.Marks.{bitOf, markOf}
 use Rattle.hull_marks.proofs.is_marked.Statement.{statement}
 use Rattle.hull_marks.proofs.is_marked.Tie as tie
 
@@ -15,7 +15,7 @@ shr-shifted : tie.Need-shr-shifted
 shr-shifted c = search needs
 
 returns : tie.Need-returns
-unfolding isMarked bitOf
+unfolding markOf bitOf
 returns c = refl
 
 pub is-marked-spec : {M : Type 1} → statement M

@@ -9,12 +9,15 @@ use lib.ListN.{length, getD, set, replicate}
 use Rattle.hull_links.specs.Walks.{has}
 
 -- bit k of a word
-unfoldable pub bitOf : ℕ → ℕ → Bool
-bitOf word k = eqb (word / 2 ^ k % 2) 1
+unfoldable pub bitOf : ℕ → ℕ → ℕ
+bitOf word k = word / 2 ^ k % 2
 
--- whether i is marked
-unfoldable pub isMarked : List ℕ → ℕ → Bool
-isMarked words i = bitOf (getD words (i / 64) 0) (i % 64)
+-- the mark of i, 1 or 0, and whether i is marked
+unfoldable pub markOf : List ℕ → ℕ → ℕ
+markOf words i = bitOf (getD words (i / 64) 0) (i % 64)
+
+abbrev pub isMarked : List ℕ → ℕ → Bool
+isMarked words i = eqb (markOf words i) 1
 
 -- nothing is marked
 unfoldable pub noMarks : List ℕ

@@ -2,7 +2,7 @@
 
 use super::{caches, Given};
 use crate::inputs::rotation;
-use crate::shapes::breaks::break_rule;
+use crate::shapes::breaks::{break_rule, RULES};
 use crate::shapes::kinds::COMPACT;
 use crate::shapes::Shape;
 use crate::Numbers;
@@ -35,7 +35,7 @@ pub fn hull(broken: bool, n: &mut Numbers) -> Shape {
     let solid = COMPACT[n.below(COMPACT.len())].1(n);
     let mut shape = Shape::any(&solid, n);
     if broken {
-        break_rule(1 + n.below(8) as u8, &mut shape, n);
+        break_rule(1 + n.below(RULES.into()) as u8, &mut shape, n);
     }
     shape
 }

@@ -3,8 +3,8 @@
 use super::Work;
 use crate::inputs::rounded;
 use crate::pairs::{self, placed, spin, Pair};
-use crate::shapes::kinds::COMPACT;
-use crate::shapes::solids::{bands, block, frame, pyramid, tipped};
+use crate::shapes::kinds::{BOXES, CUBES, TETRAHEDRA, WEDGES};
+use crate::shapes::solids::{bands, block, bridged, frame, pyramid, tipped};
 use crate::shapes::Shape;
 use crate::sorts::places::{any_edges, anyhow, edge_on_edge, Spin};
 use crate::sorts::{padded, Sort};
@@ -20,7 +20,7 @@ pub const MORE: [Sort; 6] = [
         let (a, b) = (padded(n), padded(n));
         anyhow(a, b, n)
     }),
-    ("two level ones in a record", |n| {
+    ("two level blocks with a bridge between them", |n| {
         let (a, b) = (two_level(n), two_level(n));
         placed(a, b, n)
     }),
@@ -90,11 +90,10 @@ fn on_block(block: Shape, other: Shape, p: Vec3, angle: f32, n: &mut Numbers) ->
     }
 }
 
-/// Two blocks side by side and turned together: which of their corners lies lowest is left to rounding.
+/// Turned with its bridge: which of the two blocks' corners lies lowest is left to rounding.
 fn two_level(n: &mut Numbers) -> Shape {
-    let one = block([0.0; 3].map(|_: f64| n.between(0.2, 1.0)));
-    let other = one.clone().moved([n.between(2.5, 4.0), 0.0, 0.0]);
-    Shape::any(&one.joined(&other).turned(n), n)
+    let half = [0.0; 3].map(|_: f64| n.between(0.2, 1.0));
+    Shape::any(&bridged(half, n.between(0.5, 3.5)).turned(n), n)
 }
 
 /// A round face on a block's, shifted so that none, one or some of its corners go over the block's edge. The block may
@@ -154,7 +153,7 @@ pub fn tiny_parts(n: &mut Numbers) -> Pair {
 fn level(n: &mut Numbers) -> Pair {
     loop {
         let mut small = || {
-            let (_, solid) = [COMPACT[0], COMPACT[1], COMPACT[5], COMPACT[6]][n.below(4)];
+            let (_, solid) = [CUBES, BOXES, WEDGES, TETRAHEDRA][n.below(4)];
             Shape::any(&solid(n), n)
         };
         let (a, b) = (small(), small());

@@ -2,15 +2,20 @@
 
 use super::{Link, Shape};
 use crate::Numbers;
+use shells::*;
 use walks::*;
 
+pub mod shells;
 pub mod walks;
 
 /// Changes a hull so that a rule is broken; whether this hull allows it.
 pub type Break = fn(&mut Shape, &mut Numbers) -> bool;
 
-/// The breaks of H1 to H8. Each works on any hull that keeps the rules up to its own.
-const BREAKS: [&[Break]; 8] = [
+/// The rules have the numbers from 1 to this one.
+pub const RULES: u8 = BREAKS.len() as u8;
+
+/// The breaks of H1 to H9. Each works on any hull that keeps the rules up to its own.
+const BREAKS: [&[Break]; 9] = [
     &[other_size, other_length],
     &[out_of_range],
     &[other_twin, numbers_exchanged],
@@ -21,8 +26,14 @@ const BREAKS: [&[Break]; 8] = [
         face_edges_exchanged,
         two_rings,
         ring_of_two,
+        shells_with_one_face,
     ],
-    &[vertex_edge_elsewhere, vertex_edges_exchanged, two_fans],
+    &[
+        vertex_edge_elsewhere,
+        vertex_edges_exchanged,
+        two_fans,
+        shells_with_one_vertex,
+    ],
     &[
         beyond_limit,
         outside_box,
@@ -30,6 +41,7 @@ const BREAKS: [&[Break]; 8] = [
         short_normal,
         no_length,
     ],
+    &[tetrahedron_beside, copy_beside, shells_in_its_place],
 ];
 
 /// By any of the rule's breaks that the hull allows; each rule has one that every hull allows.

@@ -1,6 +1,6 @@
 //! Solids: corners and face loops, and what can be done with them.
 
-use super::{add, cross, dot};
+use super::{add, cross, dot, sub};
 use crate::Numbers;
 use std::f64::consts::TAU;
 
@@ -51,7 +51,8 @@ pub fn polygon(sides: usize, radius: f64) -> Vec<[f64; 2]> {
         .collect()
 }
 
-/// A convex base below, and above it the same times `taper`. A prism where that is 1.
+/// A base below, counterclockwise seen from above, and above it the same times `taper`. A prism where that is 1. Where the base
+/// is not convex, the solid is not either.
 pub fn frustum(base: &[[f64; 2]], taper: f64, height: f64) -> Solid {
     let n = base.len();
     let mut corners = raised(base, -height / 2.0);
@@ -137,10 +138,17 @@ pub fn most_faces(radius: f64) -> Solid {
     solid
 }
 
-/// V 128, H 256, F 4: two polygons, each with both its sides.
+/// V 126, H 256, F 4: as many vertices as one shell has, since V = H/2 + 2 - F.
 pub fn most_vertices(radius: f64) -> Solid {
-    let both = two_sided(64, radius);
-    both.joined(&both.clone().moved([0.0, 0.0, radius]))
+    flat(126, radius)
+}
+
+/// V n, H 2n + 4, F 4: a polygon with both its sides, and off each of them a triangle, not the same below as above. The two
+/// long rings have n - 1 corners. From 4 corners on.
+pub fn flat(sides: usize, radius: f64) -> Solid {
+    two_sided(sides, radius)
+        .with_corner_cut_off(0, 1)
+        .with_corner_cut_off(1, 1)
 }
 
 /// V n, H 2n, F 2, which are too few faces for a hull of its own.
@@ -149,6 +157,77 @@ pub fn two_sided(sides: usize, radius: f64) -> Solid {
         corners: raised(&polygon(sides, radius), 0.0),
         faces: vec![(0..sides).collect(), (0..sides).rev().collect()],
     }
+}
+
+/// V n + 1, H 2n + 2 sides, F sides + 1: a pyramid whose base has n corners, those past its own along its sides, where the tip
+/// has no edge to them.
+pub fn split_pyramid(sides: usize, corners: usize, radius: f64, height: f64) -> Solid {
+    let own = polygon(sides, radius);
+    let mut base = Vec::new();
+    let mut firsts = Vec::new();
+    for (side, &[x, y]) in own.iter().enumerate() {
+        let [to_x, to_y] = own[(side + 1) % sides];
+        // The corners that are left over go to the first sides.
+        let parts = corners / sides + usize::from(side < corners % sides);
+        firsts.push(base.len());
+        base.extend((0..parts).map(|part| {
+            let along = part as f64 / parts as f64;
+            [x + (to_x - x) * along, y + (to_y - y) * along]
+        }));
+    }
+    firsts.push(corners);
+    let mut solid = Solid {
+        corners: raised(&base, 0.0),
+        faces: vec![(0..corners).rev().collect()],
+    };
+    solid.corners.push([0.0, 0.0, height]);
+    for ends in firsts.windows(2) {
+        let below = (ends[0]..=ends[1]).map(|corner| corner % corners);
+        solid.faces.push(below.chain([corners]).collect());
+    }
+    solid
+}
+
+/// V 4n, H 16n, F 4n: a ring of n blocks round a hole, its corners at two radii. Face 0 is one that looks away from the hole.
+pub fn torus(sides: usize, [inner, outer]: [f64; 2], height: f64) -> Solid {
+    let (low, high) = (-height / 2.0, height / 2.0);
+    let mut corners = Vec::new();
+    for (near, far) in polygon(sides, inner).into_iter().zip(polygon(sides, outer)) {
+        let at = |[x, y]: [f64; 2], z: f64| [x, y, z];
+        corners.extend([at(far, low), at(far, high), at(near, high), at(near, low)]);
+    }
+    let faces = (0..sides).flat_map(|side| {
+        let (here, there) = (4 * side, 4 * ((side + 1) % sides));
+        (0..4).map(move |i| {
+            let j = (i + 1) % 4;
+            vec![here + i, there + i, there + j, here + j]
+        })
+    });
+    Solid {
+        corners,
+        faces: faces.collect(),
+    }
+}
+
+/// V 24, H 72, F 14: two blocks side by side along x, and a lower bridge between them.
+pub fn bridged(half: [f64; 3], apart: f64) -> Solid {
+    let [wide, deep, high] = half;
+    let (near, far) = (apart / 2.0, apart / 2.0 + 2.0 * wide);
+    let right = [
+        [near, -0.5],
+        [near, -1.0],
+        [far, -1.0],
+        [far, 1.0],
+        [near, 1.0],
+        [near, 0.5],
+    ];
+    let left = right.map(|[x, y]| [-x, -y]);
+    let outline: Vec<[f64; 2]> = right
+        .into_iter()
+        .chain(left)
+        .map(|[x, y]| [x, y * deep])
+        .collect();
+    frustum(&outline, 1.0, 2.0 * high)
 }
 
 /// The outline of bands round a corner, one inside the other, joined where x is between `left` and 0. A band has an outer way
@@ -245,6 +324,49 @@ impl Solid {
         let sum = (face.iter()).fold([0.0; 3], |sum, &corner| add(sum, self.corners[corner]));
         self.corners.push(sum.map(|x| x / face.len() as f64));
         face.splice(1..1, [alone, face[0]]);
+        self
+    }
+
+    /// A diagonal cuts off the corner at this place of a face; it and the two beside it make a face more.
+    fn with_corner_cut_off(mut self, face: usize, place: usize) -> Solid {
+        let ring = &mut self.faces[face];
+        let last = ring.len() - 1;
+        let ends = [place + last, place, place + 1].map(|place| ring[place % (last + 1)]);
+        ring.remove(place);
+        self.faces.push(ends.to_vec());
+        self
+    }
+
+    /// Made one with its mirror image behind a face; both lose the face, and its corners are common to them.
+    pub fn doubled(&self, face: usize) -> Solid {
+        let common = &self.faces[face];
+        let [a, b, c] = [0, 1, 2].map(|place| self.corners[common[place]]);
+        let up = cross(sub(b, a), sub(c, a));
+        let mirrored = |corner: [f64; 3]| {
+            let by = 2.0 * dot(sub(corner, a), up) / dot(up, up);
+            sub(corner, up.map(|x| x * by))
+        };
+        let mut both = self.clone();
+        let mut image: Vec<usize> = (0..self.corners.len()).collect();
+        for (corner, own) in self.corners.iter().zip(&mut image) {
+            if !common.contains(own) {
+                *own = both.corners.len();
+                both.corners.push(mirrored(*corner));
+            }
+        }
+        both.faces.remove(face);
+        for ring in both.faces.clone() {
+            both.faces
+                .push(ring.iter().rev().map(|&corner| image[corner]).collect());
+        }
+        both
+    }
+
+    /// Every face looks the other way: the wall of a hollow.
+    pub fn inside_out(mut self) -> Solid {
+        for ring in &mut self.faces {
+            ring.reverse();
+        }
         self
     }
 

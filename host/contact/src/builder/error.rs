@@ -1,5 +1,6 @@
 //! Why a hull was not built, and where.
 
+use crate::shells::in_words;
 use crate::Rule;
 use std::fmt;
 
@@ -42,6 +43,18 @@ pub enum BuildError {
     OpenEdge { face: usize, from: usize, to: usize },
     /// A vertex is in no ring.
     UnusedVertex { vertex: usize },
+    /// The rings close more than one shell.
+    Shells {
+        shells: usize,
+        /// The first to which no way across edges leads from face 0.
+        face: usize,
+    },
+    /// There is a hole through the hull, for vertices - edges + faces is not 2.
+    Hole {
+        vertices: usize,
+        edges: usize,
+        faces: usize,
+    },
     /// On no axis do the ends of an edge differ by 1/1024 m or more.
     ShortEdge {
         from: usize,
@@ -162,6 +175,22 @@ impl fmt::Display for BuildError {
             BuildError::UnusedVertex { vertex } => write!(
                 f,
                 "vertex {vertex} is in no ring: leave it out, or add the faces that meet there"
+            ),
+            BuildError::Shells { shells, face } => write!(
+                f,
+                "the faces make {} closed shells, for no way across edges leads from face 0 to face {face}: build a \
+                 hull of each shell, or leave out one that is given twice",
+                in_words(shells)
+            ),
+            BuildError::Hole {
+                vertices,
+                edges,
+                faces,
+            } => write!(
+                f,
+                "there is a hole through the hull, for {vertices} vertices - {edges} edges + {faces} faces is {}, and 2 \
+                 without a hole: cut it into convex hulls, or look for a wrong number",
+                (vertices + faces) as isize - edges as isize
             ),
             BuildError::ShortEdge {
                 from,

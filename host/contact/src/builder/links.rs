@@ -1,6 +1,7 @@
 //! The rings as half-edges, and the tests that ask nothing of the planes.
 
 use super::{BuildError, Counted};
+use crate::shells::lowest;
 use crate::HullSize;
 use std::collections::HashMap;
 
@@ -96,7 +97,34 @@ pub fn list(size: HullSize, rings: &[Vec<usize>]) -> Result<Vec<u8>, BuildError>
         |(vertex, edge): (usize, Option<u8>)| edge.ok_or(BuildError::UnusedVertex { vertex });
     let vertex_edges = vertex_edges.into_iter().enumerate().map(stored);
     let vertex_edges: Vec<u8> = vertex_edges.collect::<Result<_, _>>()?;
+    is_one_shell(size, &half_edges)?;
     Ok([&vertex_edges, half_edges.as_flattened(), &face_edges].concat())
+}
+
+/// As H9 asks. A hole is told where each vertex has one fan, as H7 asks: only then the sum of V, H and F tells of holes.
+fn is_one_shell(size: HullSize, half_edges: &[[u8; 4]]) -> Result<(), BuildError> {
+    let next = |edge: usize| usize::from(half_edges[edge][0]);
+    let shells = lowest(size.half_edges, |edge| [next(edge), edge ^ 1]);
+    if let Some(&missed) = shells.get(1) {
+        // The sides are numbered ring by ring, so that no face before this one is missed.
+        return Err(BuildError::Shells {
+            shells: shells.len(),
+            face: half_edges[missed][3].into(),
+        });
+    }
+    let fans = lowest(size.half_edges, |edge| [next(edge ^ 1)]);
+    let HullSize {
+        vertices, faces, ..
+    } = size;
+    let edges = size.half_edges / 2;
+    if fans.len() == vertices && vertices + faces != edges + 2 {
+        return Err(BuildError::Hole {
+            vertices,
+            edges,
+            faces,
+        });
+    }
+    Ok(())
 }
 
 /// Each side of a ring is a side of no other, and its opposite is one.

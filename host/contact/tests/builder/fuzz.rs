@@ -1,6 +1,7 @@
 //! Anything at all: good solids with a few changes, and numbers without any order. No input makes the builder panic,
 //! and what it hands out is accepted and as convex as it says.
 
+use super::errors::doubled;
 use super::{broken_rule, builder};
 use cases::shapes::kinds;
 use cases::shapes::solids::{bipyramid, block, frustum, polygon, pyramid, Solid};
@@ -100,7 +101,7 @@ fn change_all(solid: &mut Solid, n: &mut Numbers) {
         1 => corners.for_each(|corner| corner[axis] = by),
         2 => corners.for_each(|corner| corner[axis] *= by),
         3 => corners.for_each(|corner| *corner = corner.map(|x| x * by)),
-        4 => twice(solid, 1, 0),
+        4 => wind_twice(solid, n),
         _ => twice(solid, n.below(2), n.below(9)),
     }
 }
@@ -119,6 +120,28 @@ fn twice(solid: &mut Solid, common: usize, apart: usize) {
         let ring = solid.faces[face].iter().map(other).collect();
         solid.faces.push(ring);
     }
+}
+
+/// The solid twice in its place, wound twice round the two neighbours of a corner or two; one vertex more may be common.
+fn wind_twice(solid: &mut Solid, n: &mut Numbers) {
+    let (mut common, mut exchanged) = (Vec::new(), Vec::new());
+    for _ in 0..=n.below(2) {
+        let face = n.below(solid.faces.len());
+        let ring = &solid.faces[face];
+        if ring.is_empty() {
+            return;
+        }
+        let (corner, sides) = (n.below(ring.len()), ring.len());
+        common.extend([
+            ring[(corner + 1) % sides],
+            ring[(corner + sides - 1) % sides],
+        ]);
+        exchanged.push((face, ring[corner]));
+    }
+    if n.below(2) == 0 {
+        common.push(vertex(solid, n));
+    }
+    *solid = doubled(solid, &common, &exchanged);
 }
 
 /// A face becomes two, along a line through a corner more, near or inside the face.
@@ -204,8 +227,8 @@ fn anything() {
         };
         *met.entry(name).or_default() += 1;
     }
-    // Each of the sixteen errors, and hulls.
-    assert_eq!(met.len(), 17, "{met:?}");
+    // Each of the eighteen errors, and hulls.
+    assert_eq!(met.len(), 19, "{met:?}");
     assert!(met["built"] > 4000, "{met:?}");
     println!("{met:?}");
 }

@@ -225,19 +225,12 @@ fn deep_dents() {
     );
 }
 
-/// A second tetrahedron in the place of the first, with one vertex in common: two fans meet there.
+/// A cube wound twice round two of its corners, with one vertex more in common: two fans of the one shell meet there.
 #[test]
 fn rule() {
-    let twice = changed(tetrahedron(), |it| {
-        it.corners.extend_from_within(1..);
-        let other = |corner: &usize| if *corner == 0 { 0 } else { corner + 3 };
-        let faces: Vec<Vec<usize>> = (it.faces.iter())
-            .map(|ring| ring.iter().map(other).collect())
-            .collect();
-        it.faces.extend(faces);
-    });
+    let wound = doubled(&cube(), &[0, 3, 5], &[(4, 1)]);
     says(
-        builder(&twice),
+        builder(&wound),
         BuildError::Rule(Rule::Fans),
         "H7 is broken",
     );

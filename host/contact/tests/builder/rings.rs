@@ -1,4 +1,4 @@
-//! Coordinates, counts, rings, sides and the lengths of edges.
+//! Coordinates, counts, rings, sides, shells and the lengths of edges.
 
 use super::*;
 
@@ -163,6 +163,64 @@ fn sides() {
         BuildError::UnusedVertex { vertex: 8 },
         "vertex 8 is in no ring",
     );
+}
+
+/// There are two shells, and this face is the first that is not of face 0's.
+fn two_shells(solid: &Solid, face: usize) {
+    let words = format!(
+        "the faces make two closed shells, for no way across edges leads from face 0 to face {face}: build a hull of each"
+    );
+    let wanted = BuildError::Shells { shells: 2, face };
+    says(builder(solid), wanted, &words);
+}
+
+#[test]
+fn shells() {
+    let beside = |x: f64| cube().moved([x, 0.0, 0.0]);
+    let apart = cube().joined(&beside(50.0));
+    two_shells(&apart, 6);
+    let three = apart.joined(&beside(100.0));
+    let wanted = BuildError::Shells { shells: 3, face: 6 };
+    says(builder(&three), wanted, "make 3 closed shells");
+
+    // Side by side, and one in the other: as a solid of its own, and as the inside of a hollow one.
+    two_shells(&cube().joined(&beside(2.0)), 6);
+    let mut small = block([0.5; 3]);
+    two_shells(&cube().joined(&small), 6);
+    turn_all(&mut small);
+    two_shells(&cube().joined(&small), 6);
+    // No vertex lies outside a face: neither of the same cube twice, nor where the two have a vertex in common.
+    two_shells(&doubled(&cube(), &[], &[]), 6);
+    two_shells(&doubled(&tetrahedron(), &[0], &[]), 4);
+
+    // Faces are told as they were given, in whatever order.
+    let mixed = changed(apart.clone(), |it| it.faces.swap(2, 11));
+    two_shells(&mixed, 2);
+    let mixed = changed(apart, |it| it.faces.swap(0, 11));
+    two_shells(&mixed, 1);
+
+    let long = grown_together(&cube(), 1, &beside(2.0), 0);
+    builds(builder(&long));
+}
+
+#[test]
+fn holes() {
+    let hole = |vertices, edges, faces| BuildError::Hole {
+        vertices,
+        edges,
+        faces,
+    };
+    let words = "a hole through the hull, for 16 vertices - 32 edges + 16 faces is 0, and 2 without a hole: cut it";
+    says(builder(&square_ring()), hole(16, 32, 16), words);
+    let other = square_ring().moved([4.0, 0.0, 0.0]);
+    let two = grown_together(&square_ring(), 1, &other, 3);
+    says(builder(&two), hole(28, 60, 30), "30 faces is -2, and 2");
+    // Together with a box there is no hole by the numbers, and there are two shells.
+    two_shells(&cube().joined(&square_ring()), 6);
+
+    // A cube wound twice round four of its corners: a hole that no plane tells of.
+    let wound = doubled(&cube(), &[0, 3, 5, 6], &[(4, 1), (5, 7)]);
+    says(builder(&wound), hole(12, 24, 12), "12 faces is 0, and 2");
 }
 
 #[test]

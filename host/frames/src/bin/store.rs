@@ -1,5 +1,5 @@
 //! Writes the frames that are stored with the program, and their answers, which come from document 01 and the Rust text
-//! alone and never from the program: the files `stdin` and `stdout` of a folder.
+//! alone and never from the program: the files `stdin` and `stdout` of a folder. The frames of a `stdin` that is there stay.
 //!
 //!     store crates/contact
 
@@ -9,7 +9,8 @@ fn main() -> std::io::Result<()> {
         eprintln!("usage: store FOLDER");
         std::process::exit(2);
     };
-    let (input, output) = frames::stored::files();
+    let stored = std::fs::read(folder.join("stdin")).unwrap_or_default();
+    let (input, output) = frames::stored::files(&stored);
     let lines = output.iter().filter(|&&byte| byte == b'\n').count();
     println!(
         "{lines} frames, {} bytes in and {} bytes out",

@@ -1,17 +1,12 @@
 //! Calls with something that breaks a rule.
 
-use super::calls::any_given;
-use crate::codec::call_frame;
+use super::calls::{any_given, frame};
 use crate::Frame;
 use cases::calls::broken::hull;
 use cases::calls::{caches, Given};
-use cases::shapes::breaks::break_rule;
+use cases::shapes::breaks::{break_rule, RULES};
 use cases::shapes::Shape;
 use cases::Numbers;
-
-fn frame(given: &Given) -> Frame {
-    Frame::Bytes(call_frame(&given.call()))
-}
 
 /// A hull of which `change` broke something, as A or as B.
 fn with_hull(turn: usize, n: &mut Numbers, change: impl FnOnce(&mut Shape, &mut Numbers)) -> Frame {
@@ -23,17 +18,18 @@ fn with_hull(turn: usize, n: &mut Numbers, change: impl FnOnce(&mut Shape, &mut 
     frame(&given)
 }
 
-/// Each of H1 to H8 in turn.
+/// Each of H1 to H9 in turn.
 pub fn one_rule(turn: usize, n: &mut Numbers) -> Vec<Frame> {
-    let rule = 1 + (turn / 2 % 8) as u8;
+    let rule = (1..=RULES).cycle().nth(turn / 2).expect("it goes round");
     let broken = |_| with_hull(turn, n, |shape, n| break_rule(rule, shape, n));
     [0; 2].map(broken).to_vec()
 }
 
 /// Each two of them in turn: a break keeps every rule before its own.
 pub fn two_rules(turn: usize, n: &mut Numbers) -> Vec<Frame> {
-    let pairs = (1..=8).flat_map(|first| (first + 1..=8).map(move |second| (first, second)));
-    let (first, second) = pairs.cycle().nth(turn / 2 % 28).expect("it goes round");
+    let after = |first| (first + 1..=RULES).map(move |second| (first, second));
+    let pairs: Vec<(u8, u8)> = (1..=RULES).flat_map(after).collect();
+    let (first, second) = pairs[turn / 2 % pairs.len()];
     vec![with_hull(turn, n, |shape, n| {
         break_rule(second, shape, n);
         break_rule(first, shape, n);

@@ -13,7 +13,7 @@ use cases::{convert, Numbers};
 use records::{HullSize, SatCache};
 
 /// What the pair's calls are given.
-fn given(pair: Pair, cache: SatCache) -> Given {
+pub fn given(pair: Pair, cache: SatCache) -> Given {
     Given {
         capacity: 4,
         transform: convert::our_transform(pair.transform),
@@ -23,7 +23,7 @@ fn given(pair: Pair, cache: SatCache) -> Given {
     }
 }
 
-fn frame(given: &Given) -> Frame {
+pub fn frame(given: &Given) -> Frame {
     Frame::Bytes(call_frame(&given.call()))
 }
 

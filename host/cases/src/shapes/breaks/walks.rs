@@ -60,7 +60,14 @@ pub fn two_rings(shape: &mut Shape, n: &mut Numbers) -> bool {
         return false;
     }
     let lost = n.below(last + 1);
-    rename(shape, Link::Face, lost, other(lost, last + 1, n));
+    make_faces_one(shape, lost, other(lost, last + 1, n));
+    true
+}
+
+/// The last face gets the number that is lost.
+pub fn make_faces_one(shape: &mut Shape, lost: usize, kept: usize) {
+    let last = shape.size.faces - 1;
+    rename(shape, Link::Face, lost, kept);
     rename(shape, Link::Face, last, lost);
     let (from, to) = (shape.face_edge(last), shape.face_edge(lost));
     shape.links[to] = shape.links[from];
@@ -69,7 +76,6 @@ pub fn two_rings(shape: &mut Shape, n: &mut Numbers) -> bool {
     shape.numbers.copy_within(from.., to);
     shape.numbers.truncate(from);
     shape.size.faces = last;
-    true
 }
 
 /// An edge is doubled, with a face of two half-edges between the old one and the new one.
@@ -131,6 +137,13 @@ pub fn two_fans(shape: &mut Shape, n: &mut Numbers) -> bool {
     if (0..shape.size.half_edges).any(joined) {
         return false;
     }
+    make_vertices_one(shape, lost, kept);
+    true
+}
+
+/// The last vertex gets the number that is lost.
+pub fn make_vertices_one(shape: &mut Shape, lost: usize, kept: usize) {
+    let last = shape.size.vertices - 1;
     rename(shape, Link::Origin, lost, kept);
     rename(shape, Link::Origin, last, lost);
     let lists = [0, 1, 2].map(|axis| {
@@ -145,5 +158,4 @@ pub fn two_fans(shape: &mut Shape, n: &mut Numbers) -> bool {
     shape.links[lost] = shape.links[last];
     shape.links.remove(last);
     shape.size.vertices = last;
-    true
 }

@@ -1,11 +1,11 @@
 //! Each rule broken alone, and two together.
 
 use super::{any_shape, Total};
-use cases::shapes::breaks::break_rule;
+use cases::shapes::breaks::{break_rule, RULES};
 use cases::Numbers;
 
 pub fn run(total: &mut Total, n: &mut Numbers, count: usize) {
-    for rule in 1..=8 {
+    for rule in 1..=RULES {
         total.sort(&format!("H{rule} broken"), |sort| {
             for _ in 0..count {
                 let mut shape = any_shape(n);
@@ -15,7 +15,8 @@ pub fn run(total: &mut Total, n: &mut Numbers, count: usize) {
         });
     }
     total.sort("two rules broken", |sort| {
-        for (first, second) in (1..=8).flat_map(|i| (i + 1..=8).map(move |j| (i, j))) {
+        let pairs = (1..=RULES).flat_map(|i| (i + 1..=RULES).map(move |j| (i, j)));
+        for (first, second) in pairs {
             for _ in 0..count / 4 {
                 let mut shape = any_shape(n);
                 break_rule(second, &mut shape, n);

@@ -1,14 +1,14 @@
 //! Hulls with damaged links: every byte in turn, the known traps, and maps that are wholly made up.
 
 use super::{any_shape, Total};
-use cases::shapes::breaks::{walks, Break};
+use cases::shapes::breaks::{shells, walks, Break};
 use cases::shapes::kinds::COMPACT;
 use cases::shapes::{Link, Padding, Shape};
 use cases::Numbers;
 use probes::HullSize;
 
 /// A name, the change, and the rule that it breaks.
-const TRAPS: [(&str, Break, u8); 8] = [
+const TRAPS: [(&str, Break, u8); 10] = [
     ("a ring that leads into itself", ring_cut_short, 4),
     ("a chain into another ring", walks::chain_across_rings, 5),
     ("a chain into its own ring", walks::chain_within_ring, 5),
@@ -25,6 +25,16 @@ const TRAPS: [(&str, Break, u8); 8] = [
         7,
     ),
     ("a vertex with two fans", walks::two_fans, 7),
+    (
+        "two shells that share a face's number",
+        shells::shells_with_one_face,
+        6,
+    ),
+    (
+        "two shells that share a vertex's number",
+        shells::shells_with_one_vertex,
+        7,
+    ),
 ];
 
 pub fn run(total: &mut Total, n: &mut Numbers, count: usize) {
@@ -68,13 +78,20 @@ pub fn run(total: &mut Total, n: &mut Numbers, count: usize) {
     });
     total.sort("maps made up", |sort| {
         for _ in 0..count {
-            sort.hold(&made_up(n));
+            let next = made_up(n);
+            sort.hold(&of_rings(&next, n));
+        }
+    });
+    total.sort("a good hull's rings, joined otherwise", |sort| {
+        for _ in 0..count {
+            let next = joined_otherwise(&any_shape(n), n);
+            sort.hold(&of_rings(&next, n));
         }
     });
 }
 
 /// Each byte set to random values and to the ends of each range.
-fn every_byte(shape: &Shape, n: &mut Numbers, mut hold: impl FnMut(&Shape)) {
+pub fn every_byte(shape: &Shape, n: &mut Numbers, mut hold: impl FnMut(&Shape)) {
     let HullSize {
         vertices: v,
         half_edges: h,
@@ -104,9 +121,8 @@ fn ring_cut_short(shape: &mut Shape, n: &mut Numbers) -> bool {
     true
 }
 
-/// Rings of random lengths over half-edges in random order, and the faces and vertices that they make: the rules up to
-/// H5, and H7, are kept where the sizes are within limits.
-fn made_up(n: &mut Numbers) -> Shape {
+/// The next of each half-edge: rings of random lengths over half-edges in random order.
+fn made_up(n: &mut Numbers) -> Vec<usize> {
     let half_edges = 12 + 2 * n.below(123);
     let order = n.order(half_edges);
     let (shortest, spread) = (1 + n.below(4), 1 + n.below(8));
@@ -120,6 +136,34 @@ fn made_up(n: &mut Numbers) -> Shape {
         }
         rest = after;
     }
+    next
+}
+
+/// The next of each half-edge where some half-edges have changed places, so that they have other twins. Most such maps are one
+/// piece with holes.
+fn joined_otherwise(shape: &Shape, n: &mut Numbers) -> Vec<usize> {
+    let half_edges = shape.size.half_edges;
+    let mut next: Vec<usize> = (0..half_edges)
+        .map(|edge| shape.get(edge, Link::Next))
+        .collect();
+    for _ in 0..1 + n.below(4) {
+        let (a, b) = (n.below(half_edges), n.below(half_edges));
+        next.swap(a, b);
+        for edge in &mut next {
+            *edge = match *edge {
+                edge if edge == a => b,
+                edge if edge == b => a,
+                edge => edge,
+            };
+        }
+    }
+    next
+}
+
+/// The faces and vertices that such rings make: the rules up to H5, and H7, are kept where the sizes are within limits, H6
+/// where no ring is too short, and H8 where no edge ends where it starts.
+fn of_rings(next: &[usize], n: &mut Numbers) -> Shape {
+    let half_edges = next.len();
     let (faces, face_edges) = cycles(half_edges, |edge| next[edge]);
     let (origins, vertex_edges) = cycles(half_edges, |edge| next[edge ^ 1]);
 

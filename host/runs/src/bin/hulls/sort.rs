@@ -13,7 +13,7 @@ const LIMIT: Duration = Duration::from_millis(1);
 const TRIES: usize = 20;
 
 /// How often each answer was met.
-type Answers = [u64; 9];
+type Answers = [u64; 10];
 
 #[derive(Default)]
 pub struct Sort {
@@ -98,15 +98,15 @@ impl Total {
         }
     }
 
-    /// The last line; whether the run is good.
-    pub fn report(&self, least: u64) -> bool {
+    /// The last line; whether the run is good: so many hulls were compared, and so many had more than one shell or a hole.
+    pub fn report(&self, least: u64, least_shells: u64) -> bool {
         let Tally {
             compared,
             different,
         } = self.all.tally;
         let answers = self.all.answers;
         let list: String = answers.iter().map(|count| format!(" {count}")).collect();
-        println!("hulls: {compared} compared, {different} different; answers 0..8:{list}");
+        println!("hulls: {compared} compared, {different} different; answers 0..9:{list}");
         let faults = [
             (different > 0, "an answer differs".to_string()),
             (
@@ -117,6 +117,10 @@ impl Total {
             (
                 compared < least,
                 format!("fewer than {least} hulls were compared"),
+            ),
+            (
+                answers[9] < least_shells,
+                format!("answer 9 was met fewer than {least_shells} times"),
             ),
         ];
         for (_, fault) in faults.iter().filter(|(met, _)| *met) {

@@ -1,0 +1,7 @@
+-- Inner: a sum, for laws that count. Definitions only.
+use Prim.Native.Nat.{ℕ, zero, suc, _+_}
+
+-- f 0 + f 1 + .. + f (k - 1)
+unfoldable pub sum : (ℕ → ℕ) → ℕ → ℕ
+sum f zero = 0
+sum f (suc k) = f k + sum f k

@@ -1,0 +1,4 @@
+pub mod Reach
+pub mod Theorem
+pub mod Flood
+pub mod Marking
