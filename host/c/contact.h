@@ -5,7 +5,9 @@
    rule is refused by a number. docs/RULES.md has the rules, the refusals and the layouts.
 
    What a host must know:
-   - Units: metres. Positions, normals and points are in A's frame; separations are metres, below zero where the hulls overlap.
+   - Units: a hull says in which unit its lengths are, 1, 10, 100 or 1000 to the metre (contact_size, unit), and both hulls of a
+     call have the same. The transform's position and all that comes out is in that unit and in A's frame; separations are
+     below zero where the hulls overlap. Limits and tolerances go by the unit: contact_farthest and those beside it.
    - Memory: a pointer with a length points to that many elements, aligned as C aligns them, or is NULL where the length is
      0. `cache` is never NULL. Nothing is kept after a call, nothing is allocated. What is written (`cache`, `answer`)
      overlaps nothing that is lent beside it. Two lists that are only read may be the same.
@@ -29,7 +31,7 @@ extern "C" {
 
 /* The number of these records and functions. It goes up with every change of a record, of a function's parameters, or of
    what a number in them means. */
-#define CONTACT_ABI 4
+#define CONTACT_ABI 5
 
 /* The most points of a contact, and the least capacity with which a call does any work. */
 #define CONTACT_MAX_POINTS 4
@@ -58,24 +60,43 @@ typedef struct {
 
 /* Where B lies in A's frame: turned by q, then moved by p. */
 typedef struct {
-    contact_vec3 p; /* metres, within 4096 on each axis */
+    contact_vec3 p; /* in the hulls' unit, within contact_farthest on each axis */
     contact_quat q;
 } contact_transform;
 
-/* How many vertices, half-edges and faces a hull has. */
+/* How many of a hull's length unit make a metre. Any other number breaks H1. */
+enum contact_unit {
+    CONTACT_METRES = 1,
+    CONTACT_DECIMETRES = 10,
+    CONTACT_CENTIMETRES = 100,
+    CONTACT_MILLIMETRES = 1000
+};
+
+/* The length unit of a hull, and how many vertices, half-edges and faces it has. */
 typedef struct {
+    size_t unit;       /* enum contact_unit */
     size_t vertices;   /* V, 4 to 128 */
     size_t half_edges; /* H, even, 12 to 256 */
     size_t faces;      /* F, 4 to 128 */
 } contact_size;
 
-/* A hull is two lists and its sizes.
+/* Lengths by the unit, a number of enum contact_unit: the limit of coordinates, padding, boxes and positions; that of offsets;
+   the least distance on some axis between the ends of an edge; within which difference a cached axis serves again (0.005 m); and
+   from which distance on there are no points (0.02 m). The last two are rounded products, the others exact. */
+static inline float contact_farthest(size_t unit) { return 4096.0f * (float)unit; }
+static inline float contact_farthest_offset(size_t unit) { return 8192.0f * (float)unit; }
+static inline float contact_shortest_edge(size_t unit) { return (float)unit / 1024.0f; }
+static inline float contact_slop(size_t unit) { return 0.005f * (float)unit; }
+static inline float contact_speculative_distance(size_t unit) { return 4.0f * contact_slop(unit); }
+
+/* A hull is two lists, its unit and its sizes.
    numbers: box low x, y, z; box high x, y, z; the x of every vertex, then every y, then every z, each of the three lists
    padded to a multiple of four places (fill the padding with vertex 0); then for each face its outward unit normal x, y, z
    and its offset, the dot of the normal with any corner of the face.
    links: for each vertex a half-edge that starts there; for each half-edge its next, its twin, its origin and its face, a
    byte each; for each face one of its half-edges. A face's ring goes counter-clockwise as seen from outside, and half-edges
-   2k and 2k + 1 are twins. All faces are of one closed shell without a hole through it. */
+   2k and 2k + 1 are twins. All faces are of one closed shell without a hole through it. All numbers but the normals are
+   lengths in the hull's unit. */
 
 /* How many numbers and links a hull of these sizes has; of sizes that no hull can have the result means nothing. */
 static inline size_t contact_numbers_len(contact_size size) {
@@ -98,7 +119,7 @@ enum contact_kind {
 /* The axis that the last call found. One for each pair of hulls, all zero before the first call; a call that is accepted
    leaves the next one in its place, one that is refused keeps every bit. */
 typedef struct {
-    uint32_t separation; /* the bits of a float, in metres: contact_separation reads it */
+    uint32_t separation; /* the bits of a float, in the hulls' unit: contact_separation reads it */
     uint8_t kind;        /* enum contact_kind, or any other number */
     uint8_t index_a;
     uint8_t index_b;
@@ -122,8 +143,8 @@ typedef struct {
 } contact_pair;
 
 typedef struct {
-    contact_vec3 position; /* in A's frame */
-    float separation;      /* metres, below zero where the hulls overlap there */
+    contact_vec3 position; /* in A's frame and in the hulls' unit */
+    float separation;      /* in that unit, below zero where the hulls overlap there */
     contact_pair pair;
     uint8_t place; /* which candidate it was: its place, 0 to 63, in the list of candidates as it stood before any pick. Two
                       points of one contact never have the same, though two candidates may carry one tag. 0 of an edge
@@ -144,7 +165,8 @@ enum contact_status {
     CONTACT_CACHE = 4,
     CONTACT_PADDING_WON = 5,
     CONTACT_CUT_FULL = 6,
-    CONTACT_OWNER = 8 /* of a frame of kind 11 alone; the number before it has ended and is given to nothing */
+    CONTACT_OWNER = 8, /* of a frame of kind 11 alone; the number before it has ended and is given to nothing */
+    CONTACT_UNITS = 17 /* given after CONTACT_HULL_B and before CONTACT_TRANSFORM */
 };
 
 /* The bytes between the fields are not set: compare fields, not memory. */
@@ -160,8 +182,8 @@ typedef struct {
 uint32_t contact_abi(void);
 
 /* One call. capacity: room for points, CONTACT_MAX_POINTS; with less the call is accepted, has no points and looks at
-   nothing else. b_in_a: where B lies in A's frame. cache: not NULL; it becomes the next cache, or keeps every bit where the
-   call is refused. The two hulls may be the same lists. */
+   nothing else. b_in_a: where B lies in A's frame, in the unit of both hulls. cache: not NULL; it becomes the next cache, or
+   keeps every bit where the call is refused. The two hulls may be the same lists. */
 contact_outcome contact_collide(
     int32_t capacity,
     const float *numbers_a, size_t numbers_a_len, const uint8_t *links_a, size_t links_a_len, contact_size size_a,
@@ -186,7 +208,8 @@ static inline const char *contact_status_text(uint8_t status) {
     case CONTACT_ACCEPTED: return "accepted";
     case CONTACT_HULL_A: return "hull A breaks a rule";
     case CONTACT_HULL_B: return "hull B breaks a rule";
-    case CONTACT_TRANSFORM: return "the transform is not finite, farther than 4096 on an axis, or no rotation";
+    case CONTACT_UNITS: return "the two hulls have different length units";
+    case CONTACT_TRANSFORM: return "the transform is not finite, farther than 4096 * unit on an axis, or no rotation";
     case CONTACT_CACHE: return "the cache names a face or an edge that its hull does not have";
     case CONTACT_PADDING_WON: return "a padding lane reaches farther than every vertex";
     case CONTACT_CUT_FULL: return "a cut would put out a 65th vertex";
@@ -200,7 +223,8 @@ static inline const char *contact_status_remedy(uint8_t status) {
     case CONTACT_ACCEPTED: return "nothing";
     case CONTACT_HULL_A:
     case CONTACT_HULL_B: return "ask for the rule that it breaks, and mend the hull";
-    case CONTACT_TRANSFORM: return "give B's place in A's frame, and normalize the quaternion every few steps";
+    case CONTACT_UNITS: return "bring both hulls to one unit: multiply box, coordinates and offsets of one of them, and set its unit";
+    case CONTACT_TRANSFORM: return "give B's place in A's frame and unit, and normalize the quaternion every few steps";
     case CONTACT_CACHE: return "start this pair from an empty cache; a cache belongs to one pair of hulls";
     case CONTACT_PADDING_WON: return "fill the padding with vertex 0";
     case CONTACT_CUT_FULL: return "give the two faces fewer sides";
@@ -212,7 +236,7 @@ static inline const char *contact_status_remedy(uint8_t status) {
 static inline const char *contact_rule_text(uint8_t rule) {
     switch (rule) {
     case 0: return "no rule is broken";
-    case 1: return "a size is outside its limits, or a list has not the length that the sizes ask for";
+    case 1: return "the unit is not 1, 10, 100 or 1000, a size is outside its limits, or a list has not the length that the sizes ask for";
     case 2: return "a stored number of a vertex, a half-edge or a face is out of range";
     case 3: return "half-edges 2k and 2k+1 are not each other's twin";
     case 4: return "a half-edge's next has another face, or does not start where the half-edge ends";
@@ -228,14 +252,14 @@ static inline const char *contact_rule_text(uint8_t rule) {
 static inline const char *contact_rule_remedy(uint8_t rule) {
     switch (rule) {
     case 0: return "nothing";
-    case 1: return "keep to V 4 to 128, H even and 12 to 256, F 4 to 128, and look at the lists' lengths";
+    case 1: return "keep to unit 1, 10, 100 or 1000, V 4 to 128, H even and 12 to 256, F 4 to 128, and look at the lists' lengths";
     case 2: return "look for a stored number at or above V, H or F";
     case 3: return "number the two half-edges of each edge side by side, the first of them even";
     case 4: return "go round every face counter-clockwise as seen from outside, each side from the end of the last";
     case 5: return "give every half-edge a next of its own";
     case 6: return "store for each face a half-edge of its ring, and give a face with two rings two numbers";
     case 7: return "store for each vertex a half-edge that starts there, and give a corner where two fans meet two vertices";
-    case 8: return "keep coordinates, padding and box within 4096, offsets within 8192, vertices in the box, edges above 1/1024";
+    case 8: return "keep coordinates, padding, box within 4096 * unit, offsets within 8192 * unit, vertices in the box, edges from unit / 1024 on";
     case 9: return "give each closed shell a record of its own, and cut a solid with a hole into pieces without one";
     default: return NULL;
     }

@@ -2,9 +2,9 @@
 
        cc settle.c -o settle $(pkg-config --cflags --libs contact) -lm
 
-   A log is a prism of 12 sides along x, made from its vertices and faces. Log A lies still; log B, turned by 30 degrees,
-   falls on it from 5 cm above. The simulator here is as small as can be: B moves straight down, and each step it falls as
-   far as the contact leaves room. */
+   A log is a prism of 12 sides along x, made from its vertices and faces, in metres. Log A lies still; log B, turned by 30
+   degrees, falls on it from 5 cm above. The simulator here is as small as can be: B moves straight down, and each step it
+   falls as far as the contact leaves room. */
 #include <contact.h>
 
 #include <math.h>
@@ -57,7 +57,8 @@ static void make_hull(hull *to, int vertex_count, const float *vertices, int fac
             number[end][from] = ++half_edges;
         }
     }
-    to->size = (contact_size){(size_t)vertex_count, (size_t)half_edges, (size_t)face_count};
+    to->size = (contact_size){
+        .unit = CONTACT_METRES, .vertices = (size_t)vertex_count, .half_edges = (size_t)half_edges, .faces = (size_t)face_count};
     float *box = to->numbers, *planes = box + 6 + 3 * vertex_count;
     for (int axis = 0; axis < 3; axis++) {
         float *list = box + 6 + axis * vertex_count;

@@ -26,36 +26,37 @@ use Rattle.axis.specs.Search.{axisOf, apartOf, edgeOf, foundOf, searchAn
 module _ (P : Lead → Type 0) where
   -- a new best, with its numbers
   abbrev New : ℕ → ℕ → Type 0
-  New a b = (normal : Vec3) (separation : Float) → P (newBest normal separation a b)
+  New a b = (unit : ℕ) (normal : Vec3) (separation : Float) → P (newBest unit normal separation a b)
 
-  better-keeps : (normal : Vec3) (separation : Float) (a b : ℕ) (lead : Lead) → New a b → P lead → P (betterOf normal separation a b lead)
+  better-keeps : (unit : ℕ) (normal : Vec3) (separation : Float) (a b : ℕ) (lead : Lead) → New a b → P lead → P (betterOf unit normal separation a b lead)
   unfolding betterOf
-  better-keeps normal separation a b lead new p = picked P (Ieee.lt (lead .separation) separation) (new normal separation) p
+  better-keeps unit normal separation a b lead new p = picked P (Ieee.lt (lead .separation) separation) (new unit normal separation) p
 
   -- of the faces of one side: of A's the first number is the face's, of B's the second
   module _ (turn : Rows) (position : Vec3) (s : HullSize) (n : List Float) (t : HullSize) (m : List Float) (none : P noneOf) where
     side-a-keeps : ((f v : ℕ) → f < s .faces → New f v) → P (faceSearchOf Side.A turn position s n t m)
     unfolding faceSearchOf faceTakenOf
-    side-a-keeps new = holds P _ noneOf (s .faces) none (λ f h lead p. better-keeps _ _ f _ lead (new f _ h) p)
+    side-a-keeps new = holds P _ noneOf (s .faces) none (λ f h lead p. better-keeps _ _ _ f _ lead (new f _ h) p)
 
     side-b-keeps : ((f v : ℕ) → f < s .faces → New v f) → P (faceSearchOf Side.B turn position s n t m)
     unfolding faceSearchOf faceTakenOf
-    side-b-keeps new = holds P _ noneOf (s .faces) none (λ f h lead p. better-keeps _ _ _ f lead (new f _ h) p)
+    side-b-keeps new = holds P _ noneOf (s .faces) none (λ f h lead p. better-keeps _ _ _ _ f lead (new f _ h) p)
 
-  pair-keeps : (a : EdgeA) (b : EdgeB) (i j : ℕ) (lead : Lead) → New (2 * i) (2 * j) → P lead → P (edgePairOf a b i j lead)
+  pair-keeps : (unit : ℕ) (a : EdgeA) (b : EdgeB) (i j : ℕ) (lead : Lead) → New (2 * i) (2 * j) → P lead → P (edgePairOf unit a b i j lead)
   unfolding edgePairOf triedOf
-  pair-keeps a b i j lead new p =
+  pair-keeps unit a b i j lead new p =
       picked P
       (passesOf (dotRight (b .normal0) (a .direction)) (dotRight (b .normal1) (a .direction)) (dotRight (a .normal0) (b .direction))
       (dotRight (a .normal1) (b .direction)))
       (picked P (parallelOf (dotRight (b .normal0) (a .direction)) (dotRight (b .normal1) (a .direction)) (a .direction)) p
-      (better-keeps _ _ (2 * i) (2 * j) lead new p))
+      (better-keeps unit _ _ (2 * i) (2 * j) lead new p))
       p
 
-  pairs-keep : (a : ℕ → EdgeA) (n : ℕ) (b : ℕ → EdgeB) (m : ℕ) → P noneOf → ((i j : ℕ) → i < n → j < m → New (2 * i) (2 * j)) → P (allPairs a n b m)
+  pairs-keep : (unit : ℕ) (a : ℕ → EdgeA) (n : ℕ) (b : ℕ → EdgeB) (m : ℕ) → P noneOf → ((i j : ℕ) → i < n → j < m → New (2 * i) (2 * j))
+      → P (allPairs unit a n b m)
   unfolding allPairs rowPairs
-  pairs-keep a n b m none new =
-      holds P _ noneOf m none (λ j h lead p. holds P _ lead n p (λ i g inner q. pair-keeps (a i) (b j) i j inner (new i j g h) q))
+  pairs-keep unit a n b m none new =
+      holds P _ noneOf m none (λ j h lead p. holds P _ lead n p (λ i g inner q. pair-keeps unit (a i) (b j) i j inner (new i j g h) q))
 
 -- ---- the numbers of an answer
 module _ (s t : HullSize) (a b e : Lead) (on-a : a .«index_a» < s .faces) (on-b : b .«index_b» < t .faces)
@@ -73,8 +74,8 @@ module _ {s t : HullSize} {n m : List Float} {l k : List ℕ} (x : Transform) (a
   in-range =
       answer-in-range s t _ _ _
       (side-a-keeps (λ (lead : Lead). lead .«index_a» < s .faces) _ (x .p) s n t m (omega (arith, a .numbers-fit .f-low))
-      (λ f v h normal separation. h))
+      (λ f v h unit normal separation. h))
       (side-b-keeps (λ (lead : Lead). lead .«index_b» < t .faces) _ (x .p) t m s n (omega (arith, b .numbers-fit .f-low))
-      (λ f v h normal separation. h))
-      (pairs-keep (λ (lead : Lead). (lead .«index_a» < s .«half_edges») × (lead .«index_b» < t .«half_edges»)) _ _ _ _
-      (omega (arith, a .links-fit .h-low), omega (arith, b .links-fit .h-low)) (λ i j g h normal separation. (omega (arith, g), omega (arith, h))))
+      (λ f v h unit normal separation. h))
+      (pairs-keep (λ (lead : Lead). (lead .«index_a» < s .«half_edges») × (lead .«index_b» < t .«half_edges»)) _ _ _ _ _
+      (omega (arith, a .links-fit .h-low), omega (arith, b .links-fit .h-low)) (λ i j g h unit normal separation. (omega (arith, g), omega (arith, h))))

@@ -44,7 +44,7 @@ unfoldable pub sideOfB : HullSize → List Float → HullSize → List Float →
 sideOfB s n t m x = faceSearchOf Side.B (matrixOf (x .q)) (x .p) t m s n
 
 unfoldable pub pairsOf : HullSize → List Float → List ℕ → HullSize → List Float → List ℕ → Transform → Lead
-pairsOf s n l t m k x = allPairs (edgeOfA s n l) (s .«half_edges» / 2) (edgeOfB (matrixOf (x .q)) (x .p) t m k) (t .«half_edges» / 2)
+pairsOf s n l t m k x = allPairs (s .unit) (edgeOfA s n l) (s .«half_edges» / 2) (edgeOfB (matrixOf (x .q)) (x .p) t m k) (t .«half_edges» / 2)
 
 -- hull A is (s, n, l), hull B is (t, m, k), and x places B in A's frame
 unfoldable pub searchOf : HullSize → List Float → List ℕ → HullSize → List Float → List ℕ → Transform → Search

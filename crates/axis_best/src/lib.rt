@@ -2,7 +2,7 @@
 // this one sort.
 ghost use mathlib.Core.Path.{_≡_};
 ghost use Rattle.axis_best.specs.Leads.{noneOf, betterOf};
-use manifold::limits::SPECULATIVE_DISTANCE;
+use units::speculative_distance;
 use vector::Vec3;
 
 // `apart` says that the search has stopped at this axis. Where nothing was found, the separation is minus infinity and the rest is zero.
@@ -33,12 +33,19 @@ pub fn none() -> Lead
 }
 
 // The axis takes the lead where its separation is strictly above the best before it, and stops the search where it is strictly above the speculative
-// distance too.
-pub fn better(normal: Vec3, separation: f32, index_a: u8, index_b: u8, lead: Lead) -> Lead
-    ensures { λ r. ⌜ r ≡ betterOf normal separation «index_a» «index_b» lead ⌝ }
+// distance of the unit too.
+pub fn better(
+    unit: usize,
+    normal: Vec3,
+    separation: f32,
+    index_a: u8,
+    index_b: u8,
+    lead: Lead,
+) -> Lead
+    ensures { λ r. ⌜ r ≡ betterOf unit normal separation «index_a» «index_b» lead ⌝ }
 {
     if separation > lead.separation {
-        let apart = separation > SPECULATIVE_DISTANCE;
+        let apart = separation > speculative_distance(unit);
         return Lead {
             found: true,
             apart,

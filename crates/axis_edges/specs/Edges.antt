@@ -95,20 +95,20 @@ unfoldable pub edgeSeparationOf : Vec3 → Vec3 → Vec3 → Float
 edgeSeparationOf axis a b = Ieee.neg (dotRight (sumOf a b) axis)
 
 -- a pair that has passed: unless near parallel, its axis against the best before it; the numbers are those of the half-edges, twice the edges'
-unfoldable pub triedOf : Float → Float → EdgeA → EdgeB → ℕ → ℕ → Lead → Lead
-triedOf cba dba a b i j lead =
+unfoldable pub triedOf : ℕ → Float → Float → EdgeA → EdgeB → ℕ → ℕ → Lead → Lead
+triedOf unit cba dba a b i j lead =
     let axis = axisAcrossOf cba dba (b .normal0) (b .normal1) in
-    cond (parallelOf cba dba (a .direction)) lead (betterOf axis (edgeSeparationOf axis (a .vertex) (b .vertex)) (2 * i) (2 * j) lead)
+    cond (parallelOf cba dba (a .direction)) lead (betterOf unit axis (edgeSeparationOf axis (a .vertex) (b .vertex)) (2 * i) (2 * j) lead)
 
 -- edge i of A and edge j of B
-unfoldable pub edgePairOf : EdgeA → EdgeB → ℕ → ℕ → Lead → Lead
-edgePairOf a b i j lead =
+unfoldable pub edgePairOf : ℕ → EdgeA → EdgeB → ℕ → ℕ → Lead → Lead
+edgePairOf unit a b i j lead =
     let cba = dotRight (b .normal0) (a .direction) in
     let dba = dotRight (b .normal1) (a .direction) in
     let adc = dotRight (a .normal0) (b .direction) in
     let bdc = dotRight (a .normal1) (b .direction) in
-    cond (passesOf cba dba adc bdc) (triedOf cba dba a b i j lead) lead
+    cond (passesOf cba dba adc bdc) (triedOf unit cba dba a b i j lead) lead
 
 -- A's edges 0 to n - 1 against B's edge j
-unfoldable pub rowPairs : (ℕ → EdgeA) → ℕ → EdgeB → ℕ → Lead → Lead
-rowPairs a n b j lead = leadAfter (λ i. edgePairOf (a i) b i j) lead n
+unfoldable pub rowPairs : ℕ → (ℕ → EdgeA) → ℕ → EdgeB → ℕ → Lead → Lead
+rowPairs unit a n b j lead = leadAfter (λ i. edgePairOf unit (a i) b i j) lead n

@@ -115,9 +115,18 @@ fn separation(axis: Vec3, a: Vec3, b: Vec3) -> f32
 }
 
 // Edge i of A and edge j of B, which have passed the three tests of signs: unless they are near parallel, their axis against the best before it.
-pub fn tried(cba: f32, dba: f32, a: EdgeA, b: EdgeB, i: usize, j: usize, lead: Lead) -> Lead
+pub fn tried(
+    unit: usize,
+    cba: f32,
+    dba: f32,
+    a: EdgeA,
+    b: EdgeB,
+    i: usize,
+    j: usize,
+    lead: Lead,
+) -> Lead
     requires { ⌜ (i < 128) × (j < 128) ⌝ }
-    ensures { λ r. ⌜ r ≡ triedOf cba dba a b i j lead ⌝ }
+    ensures { λ r. ⌜ r ≡ triedOf unit cba dba a b i j lead ⌝ }
 {
     if parallel(cba, dba, a.direction) {
         return lead;
@@ -126,5 +135,5 @@ pub fn tried(cba: f32, dba: f32, a: EdgeA, b: EdgeB, i: usize, j: usize, lead: L
     let apart = separation(normal, a.vertex, b.vertex);
     let index_a = (2 * i) as u8;
     let index_b = (2 * j) as u8;
-    axis_best::better(normal, apart, index_a, index_b, lead)
+    axis_best::better(unit, normal, apart, index_a, index_b, lead)
 }

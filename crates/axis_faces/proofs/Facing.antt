@@ -5,13 +5,13 @@ use mathlib.Core.Bool.{true, false}
 use mathlib.Core.List.{List}
 use Prim.Native.Nat.{ℕ, _+_, _<_, _≤_}
 use lib.Ieee.{Float}
-use Rattle.bounds.specs.Bound.{Below}
+use Rattle.bounds.specs.Within.{Within}
 use Rattle.vector.specs.declared.Vec3.{Vec3}
 use Rattle.vector.specs.declared.Plane.{Plane}
 use Rattle.vector.specs.declared.Aabb.{Aabb}
-use Rattle.vector.specs.Bounded.{VecBelow}
+use Rattle.vector.specs.Within.{VecWithin}
 use Rattle.vector.specs.Shape.{centerOf, extentsOf}
-use Rattle.vector.proofs.Bounded.{center-below, extents-below}
+use Rattle.vector.proofs.Within.{center-within, extents-within}
 use Rattle.rotation.specs.Rotation.{Rows}
 use Rattle.hull_links.specs.declared.HullSize.{HullSize}
 use Rattle.hull.specs.Numbers.{boxOf, vertexAt, planeAt}
@@ -23,11 +23,11 @@ use Rattle.axis_faces.specs.declared.Side.{Side}
 use Rattle.axis_faces.specs.Support.{supportOf}
 use Rattle.axis_faces.specs.Faces.{biasOf, directionOf, exactOf, faceAxisOf, faceSeparationOf, farthestVertexOf, faceTakenOf, faceOf, faceSearchOf}
 use Rattle.axis_faces.specs.inner.Ready.{SupportReady, Facing, FacesReady}
-use Rattle.axis_faces.proofs.Bounded.{direction-below, bias-below}
+use Rattle.axis_faces.proofs.Starts.{direction-within, bias-within}
 
 module _ {turn : Rows} {position : Vec3} {s : HullSize} {n : List Float} {t : HullSize} {m : List Float} where
-  pub direction-near : Facing turn position s n t m → (f : ℕ) → f < s .faces → VecBelow 8 (directionOf turn (planeAt s n f .normal))
-  direction-near F f h = direction-below (F .turn-below) (F .normals-below f h)
+  pub direction-near : Facing turn position s n t m → (f : ℕ) → f < s .faces → VecWithin 5 15 (directionOf turn (planeAt s n f .normal))
+  direction-near F f h = direction-within _ (F .turn-within) (F .normals-unit f h)
 
   -- the middle and the half-sizes, from the box as the code reads it
   pub faces-ready : Facing turn position s n t m → (space : Aabb) (center extents : Vec3) → space ≡ boxOf m → center ≡ centerOf space
@@ -40,14 +40,14 @@ module _ {turn : Rows} {position : Vec3} {s : HullSize} {n : List Float} {t : Hu
       → SupportReady bias d t m
   support-ready R f h plane d bias p q e =
       let F = R .facing in
-      let near : VecBelow 8 d = subst (VecBelow 8) (sym (q ∙ ap (λ (x : Plane). directionOf turn (x .normal)) p)) (direction-near F f h) in
-      let center-near = subst (VecBelow 23) (sym (R .center-is)) (center-below (F .lower-below) (F .upper-below)) in
-      let extents-near = subst (VecBelow 23) (sym (R .extents-is)) (extents-below (F .lower-below) (F .upper-below)) in
+      let near : VecWithin 5 15 d = subst (VecWithin 5 15) (sym (q ∙ ap (λ (x : Plane). directionOf turn (x .normal)) p)) (direction-near F f h) in
+      let center-near = subst (VecWithin 4000 26) (sym (R .center-is)) (center-within (F .lower-within) (F .upper-within)) in
+      let extents-near = subst (VecWithin 4000 26) (sym (R .extents-is)) (extents-within (F .lower-within) (F .upper-within)) in
       record {
         fit = F .other-fit;
-        bias-below = subst (Below 35) (sym e) (bias-below near center-near extents-near);
-        direction-below = near;
-        vertices-below = F .vertices-below;
+        bias-within = subst (Within 1980000 21) (sym e) (bias-within near center-near extents-near);
+        direction-within = near;
+        vertices-within = F .vertices-within;
       }
 
 module _ (side : Side) (turn : Rows) (position : Vec3) (s : HullSize) (n : List Float) (t : HullSize) (m : List Float) where
@@ -62,14 +62,14 @@ module _ (side : Side) (turn : Rows) (position : Vec3) (s : HullSize) (n : List 
 
   -- the lead after the faces below f
   abbrev pub leadBefore : ℕ → Lead
-  leadBefore = leadAfter (λ f. faceTakenOf side (faceOf side turn position t m (planeAt s n f)) f) noneOf
+  leadBefore = leadAfter (λ f. faceTakenOf side (s .unit) (faceOf side turn position t m (planeAt s n f)) f) noneOf
 
   pub no-face : noneOf ≡ leadBefore 0
   no-face = begins _ noneOf
 
   pub one-face : (f : ℕ) (lead next : Lead) (face : Face) → lead ≡ leadBefore f → lead .apart ≡ false
-      → face ≡ faceOf side turn position t m (planeAt s n f) → next ≡ faceTakenOf side face f lead → next ≡ leadBefore (f + 1)
-  one-face f lead next face p q e h = goes-on _ noneOf f lead next p q (h ∙ ap (λ (x : Face). faceTakenOf side x f lead) e)
+      → face ≡ faceOf side turn position t m (planeAt s n f) → next ≡ faceTakenOf side (s .unit) face f lead → next ≡ leadBefore (f + 1)
+  one-face f lead next face p q e h = goes-on _ noneOf f lead next p q (h ∙ ap (λ (x : Face). faceTakenOf side (s .unit) x f lead) e)
 
   pub stopped-face : (f : ℕ) (lead : Lead) → f ≤ s .faces → lead ≡ leadBefore f → lead .apart ≡ true
       → lead ≡ faceSearchOf side turn position s n t m

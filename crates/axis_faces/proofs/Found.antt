@@ -5,11 +5,12 @@ use mathlib.Core.Bool.{Bool, true, cond}
 use mathlib.Core.List.{List}
 use Prim.Native.Nat.{ℕ, zero, suc, _-_, _<_}
 use native.Mathlib.Omega.{arith}
-use lib.Dec.{T}
+use lib.Dec.{T, lit≤}
 use lib.Ieee.{Float, nan, inf, fin, lt, neg, ofBits, div}
 use lib.Ieee.Scale.{finite}
 use Rattle.bounds.proofs.Laws.{is-finite, picked}
 use Rattle.vector.specs.declared.Vec3.{Vec3}
+use Rattle.vector.proofs.Within.{vec-below}
 use Rattle.rotation.specs.Rotation.{Rows}
 use Rattle.hull_links.specs.declared.HullSize.{HullSize}
 use Rattle.hull.specs.Numbers.{boxOf, planeAt}
@@ -37,34 +38,34 @@ above-minus-infinity (fin s m e) p = refl
 above-lowest : (x : Float) → T (finite x) → lt lowest x ≡ true
 above-lowest x p = ap (λ (z : Float). lt z x) lowest-is ∙ above-minus-infinity x p
 
-better-first : (normal : Vec3) (x : Float) (a b : ℕ) → T (finite x) → betterOf normal x a b noneOf ≡ newBest normal x a b
+better-first : (unit : ℕ) (normal : Vec3) (x : Float) (a b : ℕ) → T (finite x) → betterOf unit normal x a b noneOf ≡ newBest unit normal x a b
 unfolding betterOf
-better-first normal x a b p = ap (λ (z : Bool). cond z (newBest normal x a b) noneOf) (above-lowest x p)
+better-first unit normal x a b p = ap (λ (z : Bool). cond z (newBest unit normal x a b) noneOf) (above-lowest x p)
 
-better-keeps : (normal : Vec3) (x : Float) (a b : ℕ) (lead : Lead) → lead .found ≡ true → betterOf normal x a b lead .found ≡ true
+better-keeps : (unit : ℕ) (normal : Vec3) (x : Float) (a b : ℕ) (lead : Lead) → lead .found ≡ true → betterOf unit normal x a b lead .found ≡ true
 unfolding betterOf
-better-keeps normal x a b lead p = picked (λ (l : Lead). l .found ≡ true) (lt (lead .separation) x) refl p
+better-keeps unit normal x a b lead p = picked (λ (l : Lead). l .found ≡ true) (lt (lead .separation) x) refl p
 
 -- a face as a new best, with its two numbers
-unfoldable pub newFace : Side → Face → ℕ → Lead
-newFace Side.A face f = newBest (face .normal) (face .separation) f (face .vertex)
-newFace Side.B face f = newBest (face .normal) (face .separation) (face .vertex) f
+unfoldable pub newFace : Side → ℕ → Face → ℕ → Lead
+newFace Side.A unit face f = newBest unit (face .normal) (face .separation) f (face .vertex)
+newFace Side.B unit face f = newBest unit (face .normal) (face .separation) (face .vertex) f
 
 -- face f as the first to be looked at
-taken-first : (side : Side) (face : Face) (f : ℕ) → T (finite (face .separation)) → faceTakenOf side face f noneOf ≡ newFace side face f
+taken-first : (side : Side) (unit : ℕ) (face : Face) (f : ℕ) → T (finite (face .separation)) → faceTakenOf side unit face f noneOf ≡ newFace side unit face f
 unfolding faceTakenOf newFace
-taken-first Side.A face f p = better-first (face .normal) (face .separation) f (face .vertex) p
-taken-first Side.B face f p = better-first (face .normal) (face .separation) (face .vertex) f p
+taken-first Side.A unit face f p = better-first unit (face .normal) (face .separation) f (face .vertex) p
+taken-first Side.B unit face f p = better-first unit (face .normal) (face .separation) (face .vertex) f p
 
-new-found : (side : Side) (face : Face) (f : ℕ) → newFace side face f .found ≡ true
+new-found : (side : Side) (unit : ℕ) (face : Face) (f : ℕ) → newFace side unit face f .found ≡ true
 unfolding newFace
-new-found Side.A face f = refl
-new-found Side.B face f = refl
+new-found Side.A unit face f = refl
+new-found Side.B unit face f = refl
 
-taken-keeps : (side : Side) (face : Face) (f : ℕ) (lead : Lead) → lead .found ≡ true → faceTakenOf side face f lead .found ≡ true
+taken-keeps : (side : Side) (unit : ℕ) (face : Face) (f : ℕ) (lead : Lead) → lead .found ≡ true → faceTakenOf side unit face f lead .found ≡ true
 unfolding faceTakenOf
-taken-keeps Side.A face f lead p = better-keeps (face .normal) (face .separation) f (face .vertex) lead p
-taken-keeps Side.B face f lead p = better-keeps (face .normal) (face .separation) (face .vertex) f lead p
+taken-keeps Side.A unit face f lead p = better-keeps unit (face .normal) (face .separation) f (face .vertex) lead p
+taken-keeps Side.B unit face f lead p = better-keeps unit (face .normal) (face .separation) (face .vertex) f lead p
 
 found-after : (step : ℕ → Lead → Lead) → step 0 noneOf .found ≡ true → ((i : ℕ) (l : Lead) → l .found ≡ true → step i l .found ≡ true)
     → (n : ℕ) → leadAfter step noneOf (suc n) .found ≡ true
@@ -86,21 +87,21 @@ module _ (side : Side) {turn : Rows} {position : Vec3} {s : HullSize} {n : List 
   separation-finite f h =
       let R = faces-ready F (boxOf m) _ _ refl refl refl in
       let d = directionOf turn (planeAt s n f .normal) in
-      let near = direction-near F f h in
+      let near = vec-below 8 (lit≤ tt) (direction-near F f h) in
       let inside = support-in (support-ready R f h (planeAt s n f) d (biasOf d _ _) refl refl refl) in
       is-finite (separation-below (axis-below side (F .normals-below f h) near) (F .position-below) (F .offsets-below f h)
-      (exact-below near (F .vertices-below _ inside)))
+      (exact-below near (vec-below 22 (lit≤ tt) (F .vertices-within _ inside))))
 
   -- the first face becomes the best
-  pub first-best : faceTakenOf side (face 0) 0 noneOf ≡ newFace side (face 0) 0
-  first-best = taken-first side (face 0) 0 (separation-finite 0 (omega (arith, F .fit .f-low)))
+  pub first-best : faceTakenOf side (s .unit) (face 0) 0 noneOf ≡ newFace side (s .unit) (face 0) 0
+  first-best = taken-first side (s .unit) (face 0) 0 (separation-finite 0 (omega (arith, F .fit .f-low)))
 
   -- so that a face is found
   pub found : faceSearchOf side turn position s n t m .found ≡ true
   unfolding faceSearchOf
   found =
       let is-found : Lead → Type 0 = λ l. l .found ≡ true in
-      let step : ℕ → Lead → Lead = λ f. faceTakenOf side (face f) f in
+      let step : ℕ → Lead → Lead = λ f. faceTakenOf side (s .unit) (face f) f in
       let some : suc (s .faces - 1) ≡ s .faces = omega (arith, F .fit .f-low) in
-      let first : is-found (step 0 noneOf) = subst is-found (sym first-best) (new-found side (face 0) 0) in
-      subst (λ (k : ℕ). is-found (leadAfter step noneOf k)) some (found-after step first (λ i. taken-keeps side (face i) i) (s .faces - 1))
+      let first : is-found (step 0 noneOf) = subst is-found (sym first-best) (new-found side (s .unit) (face 0) 0) in
+      subst (λ (k : ℕ). is-found (leadAfter step noneOf k)) some (found-after step first (λ i. taken-keeps side (s .unit) (face i) i) (s .faces - 1))

@@ -1,4 +1,5 @@
 pub mod Bounded
+pub mod Starts
 pub mod Lanes
 pub mod Facing
 pub mod Found

@@ -42,9 +42,9 @@ unfoldable pub faceSeparationOf : Vec3 → Vec3 → Float → Float → Float
 faceSeparationOf axis position offset support = dotOf axis position ⊖ offset ⊖ support
 
 -- face f against the best before it. Of a face of A the numbers are (face, vertex), of one of B (vertex, face)
-unfoldable pub faceTakenOf : Side → Face → ℕ → Lead → Lead
-faceTakenOf Side.A face f lead = betterOf (face .normal) (face .separation) f (face .vertex) lead
-faceTakenOf Side.B face f lead = betterOf (face .normal) (face .separation) (face .vertex) f lead
+unfoldable pub faceTakenOf : Side → ℕ → Face → ℕ → Lead → Lead
+faceTakenOf Side.A unit face f lead = betterOf unit (face .normal) (face .separation) f (face .vertex) lead
+faceTakenOf Side.B unit face f lead = betterOf unit (face .normal) (face .separation) (face .vertex) f lead
 
 -- whose faces are tried, what turns their normals into the other hull's frame (inv_r for A's, r for B's), and the position of B in A's frame
 module _ (side : Side) (turn : Rows) (position : Vec3) where
@@ -59,4 +59,4 @@ module _ (side : Side) (turn : Rows) (position : Vec3) where
 
   -- the best of the faces of hull (s, n), in their order, against the vertices of hull (t, m)
   unfoldable pub faceSearchOf : HullSize → List Float → HullSize → List Float → Lead
-  faceSearchOf s n t m = leadAfter (λ f. faceTakenOf side (faceOf t m (planeAt s n f)) f) noneOf (s .faces)
+  faceSearchOf s n t m = leadAfter (λ f. faceTakenOf side (s .unit) (faceOf t m (planeAt s n f)) f) noneOf (s .faces)

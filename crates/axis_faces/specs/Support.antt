@@ -7,7 +7,7 @@ use Rattle.vector.specs.declared.Vec3.{Vec3}
 use Rattle.vector.specs.Rounded.{_⊕_, _⊖_, _⊗_}
 use Rattle.lanes.specs.declared.FloatW.{FloatW}
 use Rattle.lanes.specs.Lanes.{embedWOf, leastWOf, minIndexOf}
-use Rattle.manifold.specs.Limits.{huge}
+use Rattle.units.specs.Limits.{huge}
 use Rattle.hull_links.specs.declared.HullSize.{HullSize}
 use Rattle.hull.specs.Numbers.{vertexAt}
 
@@ -33,9 +33,10 @@ splatOf x = record { x = x; y = x; z = x; w = x }
 
 -- the least of each lane over the first g groups of four, from the starting value on
 unfoldable pub leastLanes : Float → Vec3 → HullSize → List Float → ℕ → FloatW
-leastLanes bias d s n zero = splatOf huge
+leastLanes bias d s n zero = splatOf (huge (s .unit))
 leastLanes bias d s n (suc g) = leastWOf (leastLanes bias d s n g) (groupOf bias d s n (4 * g))
 
--- the number that the least across lanes carries: a vertex's, or a padding lane's
+-- the number that the least across lanes carries: a vertex's, or a padding lane's (proofs/Lanes.antt). Low bits of the starting value are 0, but at unit
+-- 1000, where they say 32: there it is above every value
 unfoldable pub supportOf : Float → Vec3 → HullSize → List Float → ℕ
 supportOf bias d s n = minIndexOf (leastLanes bias d s n ((s .vertices + 3) / 4))

@@ -100,16 +100,16 @@ fn face_at(
 }
 
 // Face f takes the lead where it is strictly better. For A's faces the face is A's number and the vertex B's; for B's faces the other way round.
-fn taken(side: Side, face: Face, f: usize, lead: Lead) -> Lead
+fn taken(side: Side, unit: usize, face: Face, f: usize, lead: Lead) -> Lead
     requires { ⌜ (f < 128) × (face .vertex < 128) ⌝ }
-    ensures { λ r. ⌜ r ≡ faceTakenOf side face f lead ⌝ }
+    ensures { λ r. ⌜ r ≡ faceTakenOf side unit face f lead ⌝ }
 {
     let number = f as u8;
     let vertex = face.vertex as u8;
     let normal = face.normal;
     match side {
-        Side::A => axis_best::better(normal, face.separation, number, vertex, lead),
-        Side::B => axis_best::better(normal, face.separation, vertex, number, lead),
+        Side::A => axis_best::better(unit, normal, face.separation, number, vertex, lead),
+        Side::B => axis_best::better(unit, normal, face.separation, vertex, number, lead),
     }
 }
 
@@ -143,7 +143,7 @@ fn search_with(
             extents,
             f,
         );
-        lead = taken(side, face, f, lead);
+        lead = taken(side, size.unit, face, f, lead);
         if lead.apart {
             return lead;
         }

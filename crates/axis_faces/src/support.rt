@@ -6,7 +6,6 @@ ghost use Rattle.axis_faces.specs.Support.{supportValueOf, groupOf, spla
 ghost use Rattle.axis_faces.specs.inner.Ready.{SupportReady};
 use hull_links::HullSize;
 use lanes::FloatW;
-use manifold::limits::HUGE;
 use vector::Vec3;
 
 // bias - dot, the dot from z to x.
@@ -46,7 +45,7 @@ pub fn get_support_wide(bias: f32, d: Vec3, numbers: &[f32], size: HullSize) -> 
     ensures { λ r. ⌜ (r ≡ supportOf bias d size (now (numbers .entry))) × (r < padded size) ⌝ }
 {
     let groups = (size.vertices + 3) / 4;
-    let mut least = splat(HUGE);
+    let mut least = splat(units::huge(size.unit));
     let mut g = 0;
     while g < groups {
         least = lanes::min_w(least, group(bias, d, numbers, size, 4 * g));

@@ -29,8 +29,8 @@ four {c} {c′} {d} {d′} {v} {v′} {w} {w′} p q r s =
     ap (λ (x : Vec3). made x d v w) p ∙ ap (λ (x : Vec3). made c′ x v w) q ∙ ap (λ (x : Vec3). made c′ d′ x w) r ∙ ap (λ (x : Vec3). made c′ d′ v′ x) s
 
 -- a row's search, under the name that the code has for B's edge
-pub row-turn : (a : ℕ → EdgeA) (n : ℕ) (b x : EdgeB) (j : ℕ) (s r : Lead) → r ≡ rowPairs a n x j s → x ≡ b → r ≡ rowPairs a n b j s
-row-turn a n b x j s r e q = e ∙ ap (λ (y : EdgeB). rowPairs a n y j s) q
+pub row-turn : (unit : ℕ) (a : ℕ → EdgeA) (n : ℕ) (b x : EdgeB) (j : ℕ) (s r : Lead) → r ≡ rowPairs unit a n x j s → x ≡ b → r ≡ rowPairs unit a n b j s
+row-turn unit a n b x j s r e q = e ∙ ap (λ (y : EdgeB). rowPairs unit a n y j s) q
 
 module _ (r : Rows) (p : Vec3) (s : HullSize) (n : List Float) (l : List ℕ) (turned points : List Float) (ok : EdgesIn s l)
     (normals-stand : Three (λ f. turnedNormal r (planeAt s n f .normal)) (s .faces) turned)
@@ -45,12 +45,12 @@ module _ (r : Rows) (p : Vec3) (s : HullSize) (n : List Float) (l : List ℕ) (t
       (points-stand .each (origin s l (2 * j + 1)) (ok .origin-in (2 * j + 1) h))
 
   -- all pairs of the first m edges of B
-  pub pairs-same : (a : ℕ → EdgeA) (count m : ℕ) (x : Lead) → x ≡ allPairs a count (edgeIn turned points s l) m → 2 * m ≤ s .«half_edges»
-      → x ≡ allPairs a count (edgeOfB r p s n l) m
+  pub pairs-same : (unit : ℕ) (a : ℕ → EdgeA) (count m : ℕ) (x : Lead) → x ≡ allPairs unit a count (edgeIn turned points s l) m → 2 * m ≤ s .«half_edges»
+      → x ≡ allPairs unit a count (edgeOfB r p s n l) m
   unfolding allPairs
-  pairs-same a count m x e h =
-      e ∙ same-steps (λ j. rowPairs a count (edgeIn turned points s l j) j) (λ j. rowPairs a count (edgeOfB r p s n l j) j) noneOf m
-      (λ j q t. ap (λ (b : EdgeB). rowPairs a count b j t) (edge-same j (omega (arith, q, h))))
+  pairs-same unit a count m x e h =
+      e ∙ same-steps (λ j. rowPairs unit a count (edgeIn turned points s l j) j) (λ j. rowPairs unit a count (edgeOfB r p s n l j) j) noneOf m
+      (λ j q t. ap (λ (b : EdgeB). rowPairs unit a count b j t) (edge-same j (omega (arith, q, h))))
 
 -- what the scan asks for, from what the lists hold
 pub scan-ready : (s : HullSize) (n : List Float) (l : List ℕ) (normals turned points : List Float) (t : HullSize) (k : List ℕ) → NumbersFit s n → EdgesIn s l

@@ -8,5 +8,5 @@ use Rattle.axis_edges.specs.declared.EdgeB.{EdgeB}
 use Rattle.axis_edges.specs.Edges.{rowPairs}
 
 -- edges 0 to m - 1 of B, each against edges 0 to n - 1 of A
-unfoldable pub allPairs : (ℕ → EdgeA) → ℕ → (ℕ → EdgeB) → ℕ → Lead
-allPairs a n b m = leadAfter (λ j. rowPairs a n (b j) j) noneOf m
+unfoldable pub allPairs : ℕ → (ℕ → EdgeA) → ℕ → (ℕ → EdgeB) → ℕ → Lead
+allPairs unit a n b m = leadAfter (λ j. rowPairs unit a n (b j) j) noneOf m

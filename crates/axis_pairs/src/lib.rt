@@ -148,7 +148,7 @@ fn scan_rows(
     requires { ⌜ ScanReady size (now numbers) (now links) n (now normals) (now turned) (now points) «size_b» (now «links_b») m
         × Three (λ k. edgeOfA size (now numbers) (now links) k .direction) n (now directions) × (n ≤ width) × (width ≤ 128)
         × (length (now table) ≡ 1024) × (whole ≡ true → Table (now turned) («size_b» .faces) (vectorIn (now directions)) width (now table)) ⌝ }
-    ensures { λ r. ⌜ r ≡ allPairs (edgeOfA size (now (numbers .entry)) (now (links .entry))) n
+    ensures { λ r. ⌜ r ≡ allPairs (size .unit) (edgeOfA size (now (numbers .entry)) (now (links .entry))) n
         (edgeIn (now (turned .entry)) (now (points .entry)) «size_b» (now («links_b» .entry))) m ⌝ }
 {
     let mut along = empty_row();
@@ -217,7 +217,7 @@ fn scan(
 ) -> Lead
     requires { ⌜ ScanReady size (now numbers) (now links) n (now normals) (now turned) (now points) «size_b» (now «links_b») m
         × Three (λ k. edgeOfA size (now numbers) (now links) k .direction) n (now directions) ⌝ }
-    ensures { λ r. ⌜ r ≡ allPairs (edgeOfA size (now (numbers .entry)) (now (links .entry))) n
+    ensures { λ r. ⌜ r ≡ allPairs (size .unit) (edgeOfA size (now (numbers .entry)) (now (links .entry))) n
         (edgeIn (now (turned .entry)) (now (points .entry)) «size_b» (now («links_b» .entry))) m ⌝ }
 {
     let width = width_of(n);
@@ -253,7 +253,7 @@ pub fn search_edges(
     position: Vec3,
 ) -> Lead
     requires { ⌜ NumbersFit size (now numbers) × EdgesIn size (now links) × NumbersFit «size_b» (now «numbers_b») × EdgesIn «size_b» (now «links_b») ⌝ }
-    ensures { λ x. ⌜ x ≡ allPairs (edgeOfA size (now (numbers .entry)) (now (links .entry))) (size .«half_edges» / 2)
+    ensures { λ x. ⌜ x ≡ allPairs (size .unit) (edgeOfA size (now (numbers .entry)) (now (links .entry))) (size .«half_edges» / 2)
         (edgeOfB r position «size_b» (now («numbers_b» .entry)) (now («links_b» .entry))) («size_b» .«half_edges» / 2) ⌝ }
 {
     let n = size.half_edges / 2;

@@ -33,23 +33,23 @@ in-order false true z t s = refl
 in-order false false true t s = refl
 in-order false false false t s = refl
 
-pair-tests : (a : EdgeA) (b : EdgeB) (i j : ℕ) (cba dba adc bdc : Float) (s : Lead)
+pair-tests : (unit : ℕ) (a : EdgeA) (b : EdgeB) (i j : ℕ) (cba dba adc bdc : Float) (s : Lead)
     → cba ≡ dotRight (b .normal0) (a .direction) → dba ≡ dotRight (b .normal1) (a .direction) → adc ≡ dotRight (a .normal0) (b .direction)
     → bdc ≡ dotRight (a .normal1) (b .direction)
-    → edgePairOf a b i j s ≡ cond (atLeastEps (cba ⊗ dba)) s (cond (atLeastEps (adc ⊗ bdc) || atLeastEps (cba ⊗ bdc)) s
-    (triedOf cba dba a b i j s))
+    → edgePairOf unit a b i j s ≡ cond (atLeastEps (cba ⊗ dba)) s (cond (atLeastEps (adc ⊗ bdc) || atLeastEps (cba ⊗ bdc)) s
+    (triedOf unit cba dba a b i j s))
 unfolding edgePairOf passesOf atLeastEps
-pair-tests a b i j cba dba adc bdc s p q u v =
-    rw (← p, ← q, ← u, ← v) (in-order (atLeastEps (cba ⊗ dba)) (atLeastEps (adc ⊗ bdc)) (atLeastEps (cba ⊗ bdc)) (triedOf cba dba a b i j s) s)
+pair-tests unit a b i j cba dba adc bdc s p q u v =
+    rw (← p, ← q, ← u, ← v) (in-order (atLeastEps (cba ⊗ dba)) (atLeastEps (adc ⊗ bdc)) (atLeastEps (cba ⊗ bdc)) (triedOf unit cba dba a b i j s) s)
 
 -- a pair that has passed is tried with what the code has read
-pub tries : (table : List Float) (p q : ℕ) (a : ℕ → EdgeA) (b : EdgeB) (j i k : ℕ) (x : EdgeA) (s r : Lead)
-    → r ≡ triedOf (getD table (p + k) nan) (getD table (q + k) nan) x b k j s → x ≡ a k → k ≡ i → r ≡ triedAt table p q a b j i s
+pub tries : (unit : ℕ) (table : List Float) (p q : ℕ) (a : ℕ → EdgeA) (b : EdgeB) (j i k : ℕ) (x : EdgeA) (s r : Lead)
+    → r ≡ triedOf unit (getD table (p + k) nan) (getD table (q + k) nan) x b k j s → x ≡ a k → k ≡ i → r ≡ triedAt unit table p q a b j i s
 unfolding triedAt
-tries table p q a b j i k x s r e u v =
+tries unit table p q a b j i k x s r e u v =
     e
-    ∙ ap (λ (y : EdgeA). triedOf (getD table (p + k) nan) (getD table (q + k) nan) y b k j s) u
-    ∙ ap (λ (m : ℕ). triedAt table p q a b j m s) v
+    ∙ ap (λ (y : EdgeA). triedOf unit (getD table (p + k) nan) (getD table (q + k) nan) y b k j s) u
+    ∙ ap (λ (m : ℕ). triedAt unit table p q a b j m s) v
 
 -- ---- A's normals along B's edge
 along-is : (d : Vec3) (g : ℕ → Vec3) (n : ℕ) (normals was is : List Float) → n ≤ length was → Three g n normals → Filled (dotAt d normals) 0 n was is
@@ -67,14 +67,14 @@ module _ (s : HullSize) (n : List Float) (l : List ℕ) (count : ℕ) (normals :
   a = edgeOfA s n l
 
   -- no edge of A passes the first test
-  pub row-none : m ≡ 0 → start ≡ rowPairs a count b j start
+  pub row-none : m ≡ 0 → start ≡ rowPairs (s .unit) a count b j start
   unfolding failsFirst triedAt rowPairs
   row-none =
-      none-pass (triedAt table p q a b j) (λ i. edgePairOf (a i) b i j) (failsFirst table p q)
+      none-pass (triedAt (s .unit) table p q a b j) (λ i. edgePairOf (s .unit) (a i) b i j) (failsFirst table p q)
       (λ i. atLeastEps (dotRight (a i .normal0) (b .direction) ⊗ dotRight (a i .normal1) (b .direction)) || atLeastEps
       (getD table (p + i) nan ⊗ dotRight (a i .normal1) (b .direction)))
       start count
-      (λ i h t. pair-tests (a i) b i j (getD table (p + i) nan) (getD table (q + i) nan) (dotRight (a i .normal0) (b .direction))
+      (λ i h t. pair-tests (s .unit) (a i) b i j (getD table (p + i) nan) (getD table (q + i) nan) (dotRight (a i .normal0) (b .direction))
       (dotRight (a i .normal1) (b .direction)) t
       (ready .row0 .each i h) (ready .row1 .each i h) refl refl)
       list m front
@@ -82,12 +82,12 @@ module _ (s : HullSize) (n : List Float) (l : List ℕ) (count : ℕ) (normals :
   -- the edges that pass all tests stand at the front of `out`
   pub row-some : (was along : List Float) → Filled (dotAt (b .direction) normals) 0 (s .faces) was along → s .faces ≤ length was
       → (out : List ℕ) (left : ℕ) (r : Lead) → left ≤ length out
-      → take left out ≡ passing (failsLater table p along s l) (take m list) → r ≡ leadAfter (λ k. triedAt table p q a b j (getD out k 0))
-      start left → r ≡ rowPairs a count b j start
+      → take left out ≡ passing (failsLater table p along s l) (take m list) → r ≡ leadAfter (λ k. triedAt (s .unit) table p q a b j (getD out k 0))
+      start left → r ≡ rowPairs (s .unit) a count b j start
   unfolding failsFirst failsLater triedAt rowPairs edgeOfA
   row-some was along filled room =
-      some-pass (triedAt table p q a b j) (λ i. edgePairOf (a i) b i j) (failsFirst table p q) (failsLater table p along s l) start count
-      (λ i h t. pair-tests (a i) b i j (getD table (p + i) nan) (getD table (q + i) nan) (getD along (face s l (2 * i)) nan)
+      some-pass (triedAt (s .unit) table p q a b j) (λ i. edgePairOf (s .unit) (a i) b i j) (failsFirst table p q) (failsLater table p along s l) start count
+      (λ i h t. pair-tests (s .unit) (a i) b i j (getD table (p + i) nan) (getD table (q + i) nan) (getD along (face s l (2 * i)) nan)
       (getD along (face s l (2 * i + 1)) nan) t
       (ready .row0 .each i h) (ready .row1 .each i h)
       (there (2 * i) (omega (arith, h, ready .few))) (there (2 * i + 1) (omega (arith, h, ready .few))))

@@ -150,7 +150,7 @@ fn scan_list(
     requires { ⌜ NumbersFit size (now numbers) × EdgesIn size (now links) × (2 * n ≤ size .«half_edges») × (p + n ≤ length (now table))
         × (q + n ≤ length (now table)) × (j < 128) × (length (now list) ≡ 128) × (left ≤ 128) × ((k : ℕ) → k < left → getD (now list) k 0 < n)
         × (start .apart ≡ false) ⌝ }
-    ensures { λ r. ⌜ r ≡ leadAfter (λ k. triedAt (now (table .entry)) p q (edgeOfA size (now (numbers .entry)) (now (links .entry))) b
+    ensures { λ r. ⌜ r ≡ leadAfter (λ k. triedAt (size .unit) (now (table .entry)) p q (edgeOfA size (now (numbers .entry)) (now (links .entry))) b
         j (getD (now (list .entry)) k 0)) start left ⌝ }
 {
     let mut lead = start;
@@ -158,7 +158,7 @@ fn scan_list(
     while k < left {
         let i = hull_links::wide(list[k]);
         let a = axis_edges::edge_of_a(numbers, links, size, i);
-        lead = axis_edges::tried(table[p + i], table[q + i], a, b, i, j, lead);
+        lead = axis_edges::tried(size.unit, table[p + i], table[q + i], a, b, i, j, lead);
         if lead.apart {
             return lead;
         }
@@ -188,7 +188,7 @@ pub fn scan_row(
 ) -> Lead
     requires { ⌜ RowReady size (now numbers) (now links) n (now normals) b j start (now table) p q × (length (now along) ≡ 128)
         × (length (now list) ≡ 128) × (length (now out) ≡ 128) × Wide width n p q (now table) ⌝ }
-    ensures { λ r. ⌜ (r ≡ rowPairs (edgeOfA size (now (numbers .entry)) (now (links .entry))) n b j start) × (length (now (along .exit)) ≡ 128)
+    ensures { λ r. ⌜ (r ≡ rowPairs (size .unit) (edgeOfA size (now (numbers .entry)) (now (links .entry))) n b j start) × (length (now (along .exit)) ≡ 128)
         × (length (now (list .exit)) ≡ 128) × (length (now (out .exit)) ≡ 128) ⌝ }
 {
     let m = sift(table, p, q, width, n, list, out);

@@ -26,7 +26,7 @@ use Rattle.bounds.specs.Bound.{within, Below}
 closest-one : (q : ℕ) → closest q 1 ≡ q
 closest-one q = ap (λ (x : ℕ). nearest x (compare (q % 1 * 2) 1)) (div-one q) ∙ ap (λ (x : ℕ). nearest q (compare (x * 2) 1)) (mod-one q)
 
-closest-le : (n u q : ℕ) → 0 < u → n ≤ q * u → closest n u ≤ q
+pub closest-le : (n u q : ℕ) → 0 < u → n ≤ q * u → closest n u ≤ q
 closest-le n u q U h = subst (λ (x : ℕ). closest n u ≤ x) (closest-one q) (closest-mono n u q 1 U (zero-lt-suc 0) (le-trans (le-of-eq (mul-one n)) h))
 
 spare : (z p k : ℕ) → 0 < p → z ≤ suc k → z - p ≤ k
@@ -46,7 +46,7 @@ grid-le f a c K C h =
     le-trans (mul-le-mul-right (2 ^ d) (closest-le n (c * 2 ^ d) (2 ^ (K - d)) (mul-pos C (pow-pos d)) q)) (le-of-eq e)
 
 -- the kit's `round-val`, with either sign
-round-value : (f : Format) (s : Bool) (a c : ℕ) → grid f a c < overflow f → HasValue (round f s a c) s (grid f a c) (2 ^ low f)
+pub round-value : (f : Format) (s : Bool) (a c : ℕ) → grid f a c < overflow f → HasValue (round f s a c) s (grid f a c) (2 ^ low f)
 round-value f s a c h =
     subst (λ (z : Float). HasValue z s (grid f a c) (2 ^ low f)) (sym (round-is f s a c))
     (units-val f s (kept (prec f) (a * 2 ^ low f) c) (drop (prec f) (a * 2 ^ low f) c) h)
@@ -179,7 +179,7 @@ pub pos-le : (t : Bool) (a b : ℕ) → T (below false a t b || level false a t 
 pos-le false a b h = ⊎-elim (λ u. le-of-lt (ltb→lt a b u)) (λ u. le-of-eq (eqb→eq a b (and-l (eqb a b) true u))) (or-split (ltb a b) (eqb a b && true) h)
 pos-le true a b h = le-of-eq (eqb→eq a b (and-l (eqb a b) (eqb a 0) h))
 
-neg-le : (t : Bool) (b a : ℕ) → T (below t b true a || level t b true a) → a ≤ b
+pub neg-le : (t : Bool) (b a : ℕ) → T (below t b true a || level t b true a) → a ≤ b
 neg-le true b a h = ⊎-elim (λ u. le-of-lt (ltb→lt a b u)) (λ u. le-of-eq (sym (eqb→eq b a (and-l (eqb b a) true u)))) (or-split (ltb a b) (eqb b a && true) h)
 neg-le false b a h = le-of-eq (sym (eqb→eq b a (and-l (eqb b a) (eqb b 0) h)))
 
@@ -260,12 +260,3 @@ module _ {j k : ℕ} {a b c x y z : Float} (t : T (leb (suc (suc (j + k))) 127))
       let t₁ = less (suc (j + k)) 127 t in
       let t₀ = less (j + k) 127 t₁ in
       summed t (more (suc (j + k)) (one-more (j + k)) (multiplied t₀ pa px)) (summed t₁ (multiplied t₀ pb py) (multiplied t₀ pc pz))
-
--- ---- the limits of document 01 at the largest unit: 4096 * 1000 for coordinates, 8192 * 1000 for offsets
-pub largest-coordinate : Below 22 (mul binary32 (ofBits binary32 0x4580_0000) (ofBits binary32 0x447a_0000))
-unfolding mul ofBits
-largest-coordinate = constant 22 tt
-
-pub largest-offset : Below 23 (mul binary32 (ofBits binary32 0x4600_0000) (ofBits binary32 0x447a_0000))
-unfolding mul ofBits
-largest-offset = constant 23 tt

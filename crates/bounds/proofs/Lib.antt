@@ -3,3 +3,9 @@ pub mod Squares
 pub mod Quotients
 pub mod Bits
 pub mod LowBits
+pub mod Sized
+pub mod Within
+pub mod Norms
+pub mod Lessened
+pub mod PatternOrder
+pub mod Strict

@@ -19,7 +19,7 @@ use Rattle.bounds.specs.Squares.{squares3, squares4}
 use Rattle.bounds.proofs.Laws.{top-lt, picked, pos-le}
 
 -- not negative, or a NaN
-abbrev plus : Float → Bool
+abbrev pub plus : Float → Bool
 plus nan = true
 plus (inf s) = not s
 plus (fin s m e) = not s
@@ -47,7 +47,7 @@ units-plus : (f : Format) (q k : ℕ) → T (plus (units f false q k))
 unfolding units
 units-plus f q k = picked (λ (x : Float). T (plus x)) (ltb (q * 2 ^ k) (2 ^ (low f + suc (emax f)))) (odd-plus (suc (prec f)) q k (low f)) tt
 
-round-plus : (f : Format) (a c : ℕ) → T (plus (round f false a c))
+pub round-plus : (f : Format) (a c : ℕ) → T (plus (round f false a c))
 round-plus f a c = subst (λ (z : Float). T (plus z)) (sym (round-is f false a c))
     (units-plus f (kept (prec f) (a * 2 ^ low f) c) (drop (prec f) (a * 2 ^ low f) c))
 

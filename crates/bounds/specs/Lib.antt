@@ -1,3 +1,4 @@
 pub mod Bound
 pub mod Squares
 pub mod LowBits
+pub mod Within

@@ -5,6 +5,7 @@ use mathlib.Core.Bool.{Bool, true, false, cond}
 use mathlib.Core.List.{List}
 use mathlib.Core.Path.{_≡_, refl, ap, sym, _∙_}
 use native.Mathlib.Omega.{arith}
+use lib.Dec.{lit≤}
 use lib.Ieee as Ieee
 use lib.Ieee.{Float}
 use Rattle.bounds.specs.Bound.{Below}
@@ -13,6 +14,7 @@ use Rattle.vector.specs.declared.Vec3.{Vec3}
 use Rattle.vector.specs.Rounded.{float}
 use Rattle.vector.specs.Bounded.{VecBelow}
 use Rattle.vector.proofs.Bounded.{abs-float-below, sub-below, dot-below, normalize-below}
+use Rattle.vector.proofs.Within.{vec-below}
 use Rattle.hull_links.specs.declared.HullSize.{HullSize}
 use Rattle.hull_links.specs.Links.{turn, vertexEdge, fan}
 use Rattle.hull_links.specs.Walks.{ring, until}
@@ -23,7 +25,7 @@ use Rattle.clip_incident.specs.Incident.{projectionOf, flatterOf, flatte
 
 module _ {s : HullSize} {n : List Float} {l : List ℕ} (ok : Accepted s n l) (normal : Vec3) (p : VecBelow 43 normal) (v : ℕ) (h : v < s .vertices) where
   vertex : (i : ℕ) → i < s .vertices → VecBelow 22 (vertexAt s n i)
-  vertex i j = ok .vertices-below i (omega arith)
+  vertex i j = vec-below 22 (lit≤ tt) (ok .vertices-within i (omega arith))
 
   module _ (e : ℕ) (j : e < s .«half_edges») where
     projection-below : Below 127 (projectionOf s n l normal (vertexAt s n v) e)

@@ -11,9 +11,9 @@ use Rattle.vector.specs.declared.Plane.{Plane}
 use Rattle.vector.specs.declared.Transform.{Transform}
 use Rattle.vector.specs.Arithmetic.{subOf, negOf, dotOf}
 use Rattle.vector.specs.Shape.{planeSeparationOf}
+use Rattle.units.specs.Limits.{speculative}
 use Rattle.manifold.specs.declared.SatCache.{SatCache}
 use Rattle.manifold.specs.declared.Contact.{Contact}
-use Rattle.manifold.specs.Limits.{speculative}
 use Rattle.manifold.specs.Records.{emptyContact}
 use Rattle.hull_links.specs.declared.HullSize.{HullSize}
 use Rattle.hull_links.specs.Links.{padded, NumbersFit}
@@ -31,14 +31,14 @@ use Rattle.collide_cached.specs.Ridges.{ridgeOf, carriedRidge, crossesOf
 use Rattle.collide_cached.specs.Again.{deepestBelowA, separationFromA, cachedFaceAOf, deepestBelowB, separationFromB, cachedFaceBOf, cachedEdgeOf}
 
 -- ---- an axis, whatever its type: far enough apart is a hit with no points, else it is built anew
-module _ (far : Bool) (cache : SatCache) (b : Built) where
+module _ (far : Bool) (unit : ℕ) (cache : SatCache) (b : Built) where
   abbrev tried : Cached
-  tried = cond far (hitWith emptyContact) (servedOf cache b)
+  tried = cond far (hitWith emptyContact) (servedOf unit cache b)
 
   far-hits : far ≡ true → (contact : Contact) → contact ≡ emptyContact → (r : Cached) → r ≡ hitWith contact → r ≡ tried
   far-hits h contact none r is = is ∙ rw (h, none)
 
-  close-serves : far ≡ false → (built : Built) → built ≡ b → (r : Cached) → r ≡ servedOf cache built → r ≡ tried
+  close-serves : far ≡ false → (built : Built) → built ≡ b → (r : Cached) → r ≡ servedOf unit cache built → r ≡ tried
   close-serves h built same r is = is ∙ rw (h, same)
 
 -- ---- a support vertex is one of the hull's, and its number fits a byte
@@ -63,35 +63,35 @@ module _ (s : HullSize) (n : List Float) (t : HullSize) (m : List Float) (turn c
   is-deepest = found ∙ rw (down, turned, is)
 
   pub off-face : (p : Vec3) → p ≡ vertexAt t m v → (u : Vec3) → u ≡ carry p → (separation : Float) → separation ≡ planeSeparationOf plane u
-      → (limit : Float) → limit ≡ speculative
-      → Ieee.le limit separation ≡ Ieee.le speculative (planeSeparationOf (planeAt s n f) (carry (vertexAt t m deepest)))
-  off-face p at u carried separation q limit e = rw (e, q, carried, at, is-deepest, is)
+      → (limit far : Float) → limit ≡ far
+      → Ieee.le limit separation ≡ Ieee.le far (planeSeparationOf (planeAt s n f) (carry (vertexAt t m deepest)))
+  off-face p at u carried separation q limit far e = rw (e, q, carried, at, is-deepest, is)
 
 -- ---- types 2 and 3: hull A is (s, n, l), hull B is (t, m, k), and `far` is what the test says
 module _ (s : HullSize) (n : List Float) (l : List ℕ) (t : HullSize) (m : List Float) (k : List ℕ) (x : Transform) (cache : SatCache) (far : Bool) where
   -- a face of A
-  module _ (told : far ≡ Ieee.le speculative (separationFromA s n t m x (cache .«index_a»))) where
+  module _ (told : far ≡ Ieee.le (speculative (s .unit)) (separationFromA s n t m x (cache .«index_a»))) where
     pub a-far : far ≡ true → (contact : Contact) → contact ≡ emptyContact → (r : Cached) → r ≡ hitWith contact → r ≡ cachedFaceAOf s n l t m k x cache
     unfolding cachedFaceAOf
-    a-far h contact none r is = far-hits _ cache _ (sym told ∙ h) contact none r is
+    a-far h contact none r is = far-hits _ (s .unit) cache _ (sym told ∙ h) contact none r is
 
     pub a-close : far ≡ false → (v : ℕ) → v ≡ deepestBelowA s n t m x (cache .«index_a») → (built : Built)
         → built ≡ faceAOf s n l t m k x (cache .«index_a») v
-        → (r : Cached) → r ≡ servedOf cache built → r ≡ cachedFaceAOf s n l t m k x cache
+        → (r : Cached) → r ≡ servedOf (s .unit) cache built → r ≡ cachedFaceAOf s n l t m k x cache
     unfolding cachedFaceAOf
-    a-close h v q built same r is = close-serves _ cache _ (sym told ∙ h) built (same ∙ ap (faceAOf s n l t m k x (cache .«index_a»)) q) r is
+    a-close h v q built same r is = close-serves _ (s .unit) cache _ (sym told ∙ h) built (same ∙ ap (faceAOf s n l t m k x (cache .«index_a»)) q) r is
 
   -- a face of B
-  module _ (told : far ≡ Ieee.le speculative (separationFromB s n t m x (cache .«index_b»))) where
+  module _ (told : far ≡ Ieee.le (speculative (s .unit)) (separationFromB s n t m x (cache .«index_b»))) where
     pub b-far : far ≡ true → (contact : Contact) → contact ≡ emptyContact → (r : Cached) → r ≡ hitWith contact → r ≡ cachedFaceBOf s n l t m k x cache
     unfolding cachedFaceBOf
-    b-far h contact none r is = far-hits _ cache _ (sym told ∙ h) contact none r is
+    b-far h contact none r is = far-hits _ (s .unit) cache _ (sym told ∙ h) contact none r is
 
     pub b-close : far ≡ false → (v : ℕ) → v ≡ deepestBelowB s n t m x (cache .«index_b») → (built : Built)
         → built ≡ faceBOf s n l t m k x (cache .«index_b») v
-        → (r : Cached) → r ≡ servedOf cache built → r ≡ cachedFaceBOf s n l t m k x cache
+        → (r : Cached) → r ≡ servedOf (s .unit) cache built → r ≡ cachedFaceBOf s n l t m k x cache
     unfolding cachedFaceBOf
-    b-close h v q built same r is = close-serves _ cache _ (sym told ∙ h) built (same ∙ ap (faceBOf s n l t m k x (cache .«index_b»)) q) r is
+    b-close h v q built same r is = close-serves _ (s .unit) cache _ (sym told ∙ h) built (same ∙ ap (faceBOf s n l t m k x (cache .«index_b»)) q) r is
 
 -- ---- type 4: the edges pass by each other, or the axis across both is tried
 module _ (s : HullSize) (n : List Float) (l : List ℕ) (t : HullSize) (m : List Float) (k : List ℕ) (x : Transform) (cache : SatCache)
@@ -102,17 +102,18 @@ module _ (s : HullSize) (n : List Float) (l : List ℕ) (t : HullSize) (m : List
   pass-by h r is = rw (← is-a, ← is-b, ← told, h) is
 
   module _ (yes : cross ≡ true) (axis : Vec3) (is-axis : axis ≡ axisBetween a b) (d : Vec3) (is-d : d ≡ subOf (a .end) (b .end))
-      (separation : Float) (along : separation ≡ dotOf axis d) (limit : Float) (is-limit : limit ≡ speculative) where
-    test : Ieee.lt limit separation ≡ Ieee.lt speculative (dotOf (axisBetween a b) (subOf (a .end) (b .end)))
+      (separation : Float) (along : separation ≡ dotOf axis d) (limit : Float) (is-limit : limit ≡ speculative (s .unit)) where
+    test : Ieee.lt limit separation ≡ Ieee.lt (speculative (s .unit)) (dotOf (axisBetween a b) (subOf (a .end) (b .end)))
     test = rw (is-limit, along, is-axis, is-d)
 
     pub edge-far : Ieee.lt limit separation ≡ true → (contact : Contact) → contact ≡ emptyContact → (r : Cached) → r ≡ hitWith contact
         → r ≡ cachedEdgeOf s n l t m k x cache
     unfolding cachedEdgeOf
-    edge-far h contact none r is = rw (← is-a, ← is-b, ← told, yes) (far-hits _ cache _ (sym test ∙ h) contact none r is)
+    edge-far h contact none r is = rw (← is-a, ← is-b, ← told, yes) (far-hits _ (s .unit) cache _ (sym test ∙ h) contact none r is)
 
     pub edge-close : Ieee.lt limit separation ≡ false → (normal : Vec3) → normal ≡ negOf axis
         → (built : Built) → built ≡ edgeContactOf s n l t m k x normal (cache .«index_a») (cache .«index_b») → (r : Cached)
-        → r ≡ servedOf cache built → r ≡ cachedEdgeOf s n l t m k x cache
+        → r ≡ servedOf (s .unit) cache built → r ≡ cachedEdgeOf s n l t m k x cache
     unfolding cachedEdgeOf
-    edge-close h normal down built same r is = rw (← is-a, ← is-b, ← told, yes) (close-serves _ cache _ (sym test ∙ h) built (same ∙ rw (down, is-axis)) r is)
+    edge-close h normal down built same r is = rw (← is-a, ← is-b, ← told, yes) (close-serves _ (s .unit) cache _ (sym test ∙ h) built
+        (same ∙ rw (down, is-axis)) r is)

@@ -11,8 +11,8 @@ use Rattle.vector.specs.declared.Transform.{Transform}
 use Rattle.vector.specs.Arithmetic.{subOf, negOf, dotOf}
 use Rattle.vector.specs.Shape.{planeSeparationOf}
 use Rattle.rotation.specs.Rotation.{rotateOf, invRotateOf, transformPointOf, invTransformPointOf}
+use Rattle.units.specs.Limits.{speculative}
 use Rattle.manifold.specs.declared.SatCache.{SatCache}
-use Rattle.manifold.specs.Limits.{speculative}
 use Rattle.manifold.specs.Records.{emptyContact}
 use Rattle.hull_links.specs.declared.HullSize.{HullSize}
 use Rattle.hull.specs.Numbers.{vertexAt, planeAt, supportAt}
@@ -22,7 +22,7 @@ use Rattle.collide_outcome.specs.declared.Cached.{Cached}
 use Rattle.collide_outcome.specs.Served.{hitWith, noHit, servedOf}
 use Rattle.collide_cached.specs.Ridges.{ridgeOf, carriedRidge, crossesOf, axisBetween}
 
--- ---- types 2 and 3: hull A is (s, n, l), hull B is (t, m, k), and x places B in A's frame
+-- ---- types 2 and 3: hull A is (s, n, l), hull B is (t, m, k), of one unit, and x places B in A's frame
 -- the vertex of B that is deepest below face f of A, and how far it is from it
 unfoldable pub deepestBelowA : HullSize → List Float → HullSize → List Float → Transform → ℕ → ℕ
 deepestBelowA s n t m x f = supportAt t m (negOf (invRotateOf (x .q) (planeAt s n f .normal)))
@@ -33,7 +33,8 @@ separationFromA s n t m x f = planeSeparationOf (planeAt s n f) (transformPointO
 unfoldable pub cachedFaceAOf : HullSize → List Float → List ℕ → HullSize → List Float → List ℕ → Transform → SatCache → Cached
 cachedFaceAOf s n l t m k x cache =
     let f = cache .«index_a» in
-    cond (Ieee.le speculative (separationFromA s n t m x f)) (hitWith emptyContact) (servedOf cache (faceAOf s n l t m k x f (deepestBelowA s n t m x f)))
+    cond (Ieee.le (speculative (s .unit)) (separationFromA s n t m x f)) (hitWith emptyContact)
+    (servedOf (s .unit) cache (faceAOf s n l t m k x f (deepestBelowA s n t m x f)))
 
 -- the vertex of A that is deepest below face f of B, and how far it is from it
 unfoldable pub deepestBelowB : HullSize → List Float → HullSize → List Float → Transform → ℕ → ℕ
@@ -45,7 +46,8 @@ separationFromB s n t m x f = planeSeparationOf (planeAt t m f) (invTransformPoi
 unfoldable pub cachedFaceBOf : HullSize → List Float → List ℕ → HullSize → List Float → List ℕ → Transform → SatCache → Cached
 cachedFaceBOf s n l t m k x cache =
     let f = cache .«index_b» in
-    cond (Ieee.le speculative (separationFromB s n t m x f)) (hitWith emptyContact) (servedOf cache (faceBOf s n l t m k x f (deepestBelowB s n t m x f)))
+    cond (Ieee.le (speculative (s .unit)) (separationFromB s n t m x f)) (hitWith emptyContact)
+    (servedOf (s .unit) cache (faceBOf s n l t m k x f (deepestBelowB s n t m x f)))
 
 -- ---- type 4
 unfoldable pub cachedEdgeOf : HullSize → List Float → List ℕ → HullSize → List Float → List ℕ → Transform → SatCache → Cached
@@ -54,6 +56,6 @@ cachedEdgeOf s n l t m k x cache =
     let b = carriedRidge x t m k (cache .«index_b») in
     let axis = axisBetween a b in
     cond (crossesOf a b)
-    (cond (Ieee.lt speculative (dotOf axis (subOf (a .end) (b .end)))) (hitWith emptyContact)
-    (servedOf cache (edgeContactOf s n l t m k x (negOf axis) (cache .«index_a») (cache .«index_b»))))
+    (cond (Ieee.lt (speculative (s .unit)) (dotOf axis (subOf (a .end) (b .end)))) (hitWith emptyContact)
+    (servedOf (s .unit) cache (edgeContactOf s n l t m k x (negOf axis) (cache .«index_a») (cache .«index_b»))))
     (noHit 0)

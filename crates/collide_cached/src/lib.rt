@@ -18,8 +18,8 @@ use contacts::face::build_face_a_contact;
 use contacts::face::build_face_b_contact;
 use hull_links::HullSize;
 use manifold::SatCache;
-use manifold::limits::speculative_distance;
 use manifold::records::empty_contact;
+use units::speculative_distance;
 use vector::Transform;
 use vector::arithmetic::dot;
 use vector::arithmetic::neg;
@@ -46,7 +46,7 @@ pub fn cached_face_a(
     let direction = neg(rotation::inv_rotate_vector(transform.q, plane.normal));
     let vertex = hull::support_vertex(numbers_b, size_b, direction);
     let support = rotation::transform_point(transform, hull::vertex_at(numbers_b, size_b, vertex));
-    if plane_separation(plane, support) >= speculative_distance() {
+    if plane_separation(plane, support) >= speculative_distance(size_a.unit) {
         return hit_with(empty_contact());
     }
     let built = build_face_a_contact(
@@ -60,7 +60,7 @@ pub fn cached_face_a(
         cache.index_a,
         vertex as u8,
     );
-    served(cache, built)
+    served(size_a.unit, cache, built)
 }
 
 // Type 3: the cached face of B.
@@ -86,7 +86,7 @@ pub fn cached_face_b(
         transform,
         hull::vertex_at(numbers_a, size_a, vertex),
     );
-    if plane_separation(plane, corner) >= speculative_distance() {
+    if plane_separation(plane, corner) >= speculative_distance(size_a.unit) {
         return hit_with(empty_contact());
     }
     let built = build_face_b_contact(
@@ -100,7 +100,7 @@ pub fn cached_face_b(
         cache.index_b,
         vertex as u8,
     );
-    served(cache, built)
+    served(size_a.unit, cache, built)
 }
 
 // Type 4: the cached pair of edges, the first half-edge of each.
@@ -131,7 +131,7 @@ pub fn cached_edge(
         return no_hit(0);
     }
     let axis = axis_between(a, b);
-    if dot(axis, sub(a.end, b.end)) > speculative_distance() {
+    if dot(axis, sub(a.end, b.end)) > speculative_distance(size_a.unit) {
         return hit_with(empty_contact());
     }
     let built = build_edge_contact(
@@ -146,5 +146,5 @@ pub fn cached_edge(
         cache.index_a,
         cache.index_b,
     );
-    served(cache, built)
+    served(size_a.unit, cache, built)
 }

@@ -9,7 +9,7 @@ use lib.Ieee.{Float}
 use borrow.Author.Tests.{eq-eqb, ne-eqb}
 use Rattle.vector.specs.declared.Transform.{Transform}
 use Rattle.vector.specs.Rounded.{_⊕_, float}
-use Rattle.manifold.specs.Limits.{slop}
+use Rattle.units.specs.Limits.{slop}
 use Rattle.hull_links.specs.declared.HullSize.{HullSize}
 use Rattle.hull.specs.Accepted.{Accepted}
 use Rattle.axis.specs.declared.Axis.{Axis}
@@ -23,12 +23,12 @@ use Rattle.collide_outcome.specs.declared.Built.{Built}
 use Rattle.collide_full.specs.Full.{triesEdge, pairContact, contactA, contactB, winnerContact, insteadOf, withEdge, foundContact}
 
 -- ---- the pair of edges beside what the face made
-module _ (built : Built) (e : Axis) where
-  pub tried-empty : built .contact .count ≡ 0 → true ≡ triesEdge built e
+module _ (unit : ℕ) (built : Built) (e : Axis) where
+  pub tried-empty : built .contact .count ≡ 0 → true ≡ triesEdge unit built e
   unfolding triesEdge
   tried-empty h = rw (eq-eqb _ _ h)
 
-  pub tried-above : (built .contact .count ≡ 0 → ⊥) → Ieee.lt (float (built .cache .separation) ⊕ slop) (e .separation) ≡ triesEdge built e
+  pub tried-above : (built .contact .count ≡ 0 → ⊥) → Ieee.lt (float (built .cache .separation) ⊕ slop unit) (e .separation) ≡ triesEdge unit built e
   unfolding triesEdge
   tried-above h = rw (ne-eqb _ _ h)
 
@@ -64,13 +64,13 @@ module _ (s : HullSize) (n : List Float) (l : List ℕ) (t : HullSize) (m : List
           at-built = rw (eq-eqb _ _ h)
 
   module _ (built : Built) (e : Axis) where
-    pub not-tried : triesEdge built e ≡ false → built ≡ insteadOf s n l t m k x built e
+    pub not-tried : triesEdge (s .unit) built e ≡ false → built ≡ insteadOf s n l t m k x built e
     unfolding insteadOf
     not-tried h = rw h
 
-    module _ (pair : Built) (q : pair ≡ pairContact s n l t m k x e) (h : triesEdge built e ≡ true) where
+    module _ (pair : Built) (q : pair ≡ pairContact s n l t m k x e) (h : triesEdge (s .unit) built e ≡ true) where
       abbrev replaced : Built → Built
-      replaced w = cond (triesEdge built e) (cond (w .touching) w built) built
+      replaced w = cond (triesEdge (s .unit) built e) (cond (w .touching) w built) built
 
       pair-same : replaced pair ≡ insteadOf s n l t m k x built e
       unfolding insteadOf

@@ -9,7 +9,7 @@ use lib.Ieee as Ieee
 use lib.Ieee.{Float}
 use Rattle.vector.specs.declared.Transform.{Transform}
 use Rattle.vector.specs.Rounded.{_⊕_, float}
-use Rattle.manifold.specs.Limits.{slop}
+use Rattle.units.specs.Limits.{slop}
 use Rattle.manifold.specs.Records.{emptyContact}
 use Rattle.hull_links.specs.declared.HullSize.{HullSize}
 use Rattle.axis.specs.declared.Axis.{Axis}
@@ -27,8 +27,8 @@ unfoldable pub apartBuilt : Apart → Built
 apartBuilt a = record { status = 0; touching = false; contact = emptyContact; cache = cacheOf a }
 
 -- no points stand, or the pair's separation is strictly above the cache's plus slop
-unfoldable pub triesEdge : Built → Axis → Bool
-triesEdge built e = cond (eqb (built .contact .count) 0) true (Ieee.lt (float (built .cache .separation) ⊕ slop) (e .separation))
+unfoldable pub triesEdge : ℕ → Built → Axis → Bool
+triesEdge unit built e = cond (eqb (built .contact .count) 0) true (Ieee.lt (float (built .cache .separation) ⊕ slop unit) (e .separation))
 
 -- hull A is (s, n, l), hull B is (t, m, k), and x places B in A's frame
 module _ (s : HullSize) (n : List Float) (l : List ℕ) (t : HullSize) (m : List Float) (k : List ℕ) (x : Transform) where
@@ -49,7 +49,7 @@ module _ (s : HullSize) (n : List Float) (l : List ℕ) (t : HullSize) (m : List
 
   -- the pair's contact is tried, and replaces the face's only if it made its one point
   unfoldable pub insteadOf : Built → Axis → Built
-  insteadOf built e = cond (triesEdge built e) (cond (pairContact e .touching) (pairContact e) built) built
+  insteadOf built e = cond (triesEdge (s .unit) built e) (cond (pairContact e .touching) (pairContact e) built) built
 
   unfoldable pub withEdge : Built → EdgeAxis → Built
   withEdge built (EdgeAxis.Pair e) = insteadOf built e

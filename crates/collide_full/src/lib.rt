@@ -19,8 +19,8 @@ use hull_links::HullSize;
 use manifold::SatCache;
 use manifold::bits::bits_of;
 use manifold::bits::float_of;
-use manifold::limits::linear_slop;
 use manifold::records::empty_contact;
+use units::linear_slop;
 use vector::Transform;
 
 // The hulls are apart: no points, and the axis in the cache.
@@ -42,14 +42,14 @@ fn apart_built(apart: Apart) -> Built
     }
 }
 
-// Whether the pair of edges is to be tried beside what the face made.
-fn tries_edge(built: Built, edge: Axis) -> bool
-    ensures { λ r. ⌜ r ≡ triesEdge built edge ⌝ }
+// Whether the pair of edges is to be tried beside what the face made, in hulls of this unit.
+fn tries_edge(unit: usize, built: Built, edge: Axis) -> bool
+    ensures { λ r. ⌜ r ≡ triesEdge unit built edge ⌝ }
 {
     if built.contact.count == 0 {
         return true;
     }
-    edge.separation > float_of(built.cache.separation) + linear_slop()
+    edge.separation > float_of(built.cache.separation) + linear_slop(unit)
 }
 
 // The contact of a pair of edges along its axis.
@@ -198,7 +198,7 @@ fn instead(
     ensures { λ r. ⌜ r ≡ insteadOf «size_a» (now («numbers_a» .entry)) (now («links_a» .entry)) «size_b» (now («numbers_b» .entry))
         (now («links_b» .entry)) transform built edge ⌝ }
 {
-    if !tries_edge(built, edge) {
+    if !tries_edge(size_a.unit, built, edge) {
         return built;
     }
     let pair = pair_contact(

@@ -34,21 +34,21 @@ module _ (c : SatCache) (built : Built) where
   built-accepted h = rw (eq-eqb _ _ h)
 
 -- ---- the four cases of `servedOf`
-module _ (cache : SatCache) (b : Built) where
-  pub stays-refused : eqb (b .status) 0 ≡ false → noHit (b .status) ≡ servedOf cache b
+module _ (unit : ℕ) (cache : SatCache) (b : Built) where
+  pub stays-refused : eqb (b .status) 0 ≡ false → noHit (b .status) ≡ servedOf unit cache b
   unfolding servedOf
   stays-refused h = rw h
 
   module _ (ok : eqb (b .status) 0 ≡ true) where
-    pub not-touching : b .touching ≡ false → noHit 0 ≡ servedOf cache b
+    pub not-touching : b .touching ≡ false → noHit 0 ≡ servedOf unit cache b
     unfolding servedOf
     not-touching h = rw (ok, h)
 
     module _ (yes : b .touching ≡ true) where
-      pub still-near : nearOf cache (b .cache) ≡ true → hitWith (b .contact) ≡ servedOf cache b
+      pub still-near : nearOf unit cache (b .cache) ≡ true → hitWith (b .contact) ≡ servedOf unit cache b
       unfolding servedOf
       still-near h = rw (ok, yes, h)
 
-      pub moved-off : nearOf cache (b .cache) ≡ false → noHit 0 ≡ servedOf cache b
+      pub moved-off : nearOf unit cache (b .cache) ≡ false → noHit 0 ≡ servedOf unit cache b
       unfolding servedOf
       moved-off h = rw (ok, yes, h)

@@ -9,7 +9,6 @@ use manifold::Contact;
 use manifold::Outcome;
 use manifold::SatCache;
 use manifold::bits::float_of;
-use manifold::limits::linear_slop;
 use manifold::records::empty_cache;
 use manifold::records::empty_contact;
 use vector::scalar::abs_float;
@@ -140,17 +139,17 @@ pub fn no_hit(status: u8) -> Cached
     }
 }
 
-// Whether two separations differ by less than slop.
-fn near(cache: SatCache, fresh: SatCache) -> bool
-    ensures { λ r. ⌜ r ≡ nearOf cache fresh ⌝ }
+// Whether two separations differ by less than the slop of the unit.
+fn near(unit: usize, cache: SatCache, fresh: SatCache) -> bool
+    ensures { λ r. ⌜ r ≡ nearOf unit cache fresh ⌝ }
 {
     let difference = float_of(cache.separation) - float_of(fresh.separation);
-    abs_float(difference) < linear_slop()
+    abs_float(difference) < units::linear_slop(unit)
 }
 
 // Whether what was built anew may stand for the cached axis.
-pub fn served(cache: SatCache, built: Built) -> Cached
-    ensures { λ r. ⌜ r ≡ servedOf cache built ⌝ }
+pub fn served(unit: usize, cache: SatCache, built: Built) -> Cached
+    ensures { λ r. ⌜ r ≡ servedOf unit cache built ⌝ }
 {
     if built.status != 0 {
         return no_hit(built.status);
@@ -159,7 +158,7 @@ pub fn served(cache: SatCache, built: Built) -> Cached
         return no_hit(0);
     }
     let fresh = built.cache;
-    if near(cache, fresh) {
+    if near(unit, cache, fresh) {
         let made = built.contact;
         return hit_with(made);
     }

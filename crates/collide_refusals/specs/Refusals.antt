@@ -1,13 +1,14 @@
--- The refusals that are given before any work: the first rows of document 01's table, in its order. Definitions only.
+-- The refusals that are given before any work: the first rows of document 01's table in its order, and 17 of document 02, i, "units differ, after 2 and
+-- before 3". Definitions only.
 use Prim.Native.Nat.{ℕ, _%_}
-use mathlib.Core.Bool.{Bool}
-use mathlib.Core.List.{List, [], _∷_}
+use mathlib.Core.Bool.{Bool, cond}
+use mathlib.Core.List.{List}
 use lib.Dec.{eqb, ltb}
 use lib.Ieee.{Float}
 use Rattle.vector.specs.declared.Transform.{Transform}
 use Rattle.manifold.specs.declared.SatCache.{SatCache}
 use Rattle.hull_links.specs.declared.HullSize.{HullSize}
-use Rattle.hull_links.specs.Tests.{_&_, implies, firstBroken}
+use Rattle.hull_links.specs.Tests.{_&_, implies}
 use Rattle.hull_limits.specs.Transform.{transformRight}
 use Rattle.hull.specs.Rule8.{brokenRule}
 
@@ -22,6 +23,16 @@ cacheRight s t c =
     & implies (eqb (c .kind) 3) (ltb (c .«index_b») (t .faces))
     & implies (eqb (c .kind) 4) (firstHalf s (c .«index_a») & firstHalf t (c .«index_b»))
 
--- "1, 2: hull A, hull B breaks a rule; 3: the transform breaks a rule"; 4. The number of the first that is given, 0 if none
+-- a number unless the test is true; else what the later tests give
+abbrev pub unless : ℕ → Bool → ℕ → ℕ
+unless number test later = cond test later number
+
+-- "1, 2: hull A, hull B breaks a rule; 3: the transform breaks a rule"; 4. "Both hulls of a call must agree", and the transform's limit goes by their
+-- unit. The number of the first that is given, 0 if none
 unfoldable pub refusalOf : HullSize → List Float → List ℕ → HullSize → List Float → List ℕ → Transform → SatCache → ℕ
-refusalOf s n l t m k x cache = firstBroken 1 (eqb (brokenRule s n l) 0 ∷ eqb (brokenRule t m k) 0 ∷ transformRight x ∷ cacheRight s t cache ∷ [])
+refusalOf s n l t m k x cache =
+    unless 1 (eqb (brokenRule s n l) 0)
+    (unless 2 (eqb (brokenRule t m k) 0)
+    (unless 17 (eqb (s .unit) (t .unit))
+    (unless 3 (transformRight (s .unit) x)
+    (unless 4 (cacheRight s t cache) 0))))

@@ -1,5 +1,5 @@
-// The refusals that are given before any work, in document 01's order: 1 and 2 of the hulls, 3 of the transform, 4 of what the cache names. What each
-// says is in specs/Refusals.antt.
+// The refusals that are given before any work, in their order: 1 and 2 of the hulls, 17 of their units, 3 of the transform, 4 of what the cache names.
+// What each says is in specs/Refusals.antt.
 ghost use mathlib.Core.Path.{_≡_};
 ghost use Rattle.collide_refusals.specs.Refusals.{firstHalf, cacheRight, refusalOf};
 use hull::first_broken_rule;
@@ -56,7 +56,10 @@ pub fn first_refusal(
     if first_broken_rule(numbers_b, links_b, size_b) != 0 {
         return 2;
     }
-    if !transform_accepted(transform) {
+    if size_a.unit != size_b.unit {
+        return 17;
+    }
+    if !transform_accepted(size_a.unit, transform) {
         return 3;
     }
     if !cache_right(size_a, size_b, cache) {

@@ -2,19 +2,22 @@
 use mathlib.Core.Path.{_≡_, refl, ap}
 use mathlib.Core.Bool.{Bool, true, false}
 use mathlib.Core.List.{List, [], _∷_, map, _++_}
-use Prim.Native.Nat.{ℕ}
+use Prim.Native.Nat.{ℕ, _+_, _-_}
 use native.Mathlib.Omega.{arith}
 use lib.ListN.{set}
 use lib.Ieee.{binary32, le, neg, ofBits, add, sub, mul}
+use Rattle.units.specs.Units.{knownUnit, unitsPerMeter}
+use Rattle.units.specs.Limits.{coordinateLimit, offsetLimit, edgeLimit}
 use Rattle.hull_links.specs.Tests.{_&_, _or_, implies, all, firstBroken}
 use Rattle.hull_links.specs.Walks.{has, firsts, until, ring}
 use Rattle.hull_links.specs.Rules.{h1, vertexInRange, edgeInRange, faceInRange, h2, twinsAt, h3, linkedAt, h4, newNext, h5, ringHolds, ringRight, h6}
 use Rattle.hull_links.specs.Rules.{fanHolds, fanRight, h7}
 use Rattle.hull_shell.specs.Shell.{isIn, listed, edgesWith, any, leads, oneStepOn, within, h9}
 use Rattle.hull.specs.Numbers.{boxOf, vertexAt, planeAt}
-use Rattle.hull_limits.specs.Measures.{inside, small, moderate, nearOne, apart, inBox, planeRight, endsApart}
+use Rattle.hull_limits.specs.Measures.{inside, withinLimit, nearOne, apart, inBox, planeRight, endsApart}
 use Rattle.hull.specs.Rule8.{finiteAt, smallAt, vertexInBox, planeRightAt, edgeLong, h8, brokenRule}
-use Rattle.computed.proofs.Shapes.{Sample, tetrahedron, cube, log, pyramid, twoTetrahedra, torus, tetrahedronAndTorus}
+use Rattle.computed.proofs.Rows.{sizes}
+use Rattle.computed.proofs.Shapes.{Sample, inUnit, tetrahedron, cube, log, pyramid, twoTetrahedra, torus, tetrahedronAndTorus}
 use Rattle.computed.proofs.Walked.{repeated, passed, one-shell-walked}
 
 abbrev answer : Sample → ℕ
@@ -22,7 +25,7 @@ answer h = brokenRule (h .size) (map (ofBits binary32) (h .bits)) (h .links)
 
 -- ---- the tetrahedron with something changed
 abbrev withVertices : ℕ → Sample
-withVertices v = record { size = record { vertices = v; «half_edges» = 12; faces = 4 }; bits = tetrahedron .bits; links = tetrahedron .links }
+withVertices v = record { size = sizes v 12 4; bits = tetrahedron .bits; links = tetrahedron .links }
 
 abbrev withLinks : List ℕ → Sample
 withLinks l = record { size = tetrahedron .size; bits = tetrahedron .bits; links = l }
@@ -42,6 +45,15 @@ pub record Row : Type 0 where
 
 abbrev row : Sample → ℕ → Row
 row h r = record { hull = h; rule = r }
+
+-- the tetrahedron at this unit, with an edge of just its limit e and one float shorter, a box out to just its limit c and one float farther, and an offset
+-- of just its limit o and one float more
+abbrev bothSides : (unit e c o : ℕ) → List Row
+bothSides unit e c o =
+    row (inUnit unit (withNumber 7 e)) 0 ∷ row (inUnit unit (withNumber 7 (e - 1))) 8
+    ∷ row (inUnit unit (withNumber 3 c)) 0 ∷ row (inUnit unit (withNumber 3 (c + 1))) 8
+    ∷ row (inUnit unit (withNumber 21 o)) 0 ∷ row (inUnit unit (withNumber 21 (o + 1))) 8
+    ∷ []
 
 abbrev table : List Row
 table =
@@ -74,12 +86,22 @@ table =
     ∷ row twoTetrahedra 9
     ∷ row torus 9
     ∷ row tetrahedronAndTorus 9
-    ∷ []
+    -- document 02, i: "H1 also for an unknown unit", before any other rule
+    ∷ row (inUnit 0 tetrahedron) 1 ∷ row (inUnit 2 tetrahedron) 1 ∷ row (inUnit 5 cube) 1 ∷ row (inUnit 10000 cube) 1 ∷ row (inUnit 65535 tetrahedron) 1
+    ∷ row (inUnit 2 (withLink 4 12)) 1
+    -- "The hull rules' 4096, 8192 and 1/1024 are multiplied by it": a cube of half-size 1 is right at each unit; what is just right in metres is not at 10,
+    -- nor what is just right at 10 in metres
+    ∷ row (inUnit 10 cube) 0 ∷ row (inUnit 100 cube) 0 ∷ row (inUnit 1000 cube) 0
+    ∷ row (inUnit 10 (withNumber 7 0x3a80_0000)) 8 ∷ row (withNumber 3 0x4720_0000) 8 ∷ row (withNumber 21 0x47a0_0000) 8
+    ∷ (bothSides 10 0x3c20_0000 0x4720_0000 0x47a0_0000
+    ++ (bothSides 100 0x3dc8_0000 0x48c8_0000 0x4948_0000
+    ++ bothSides 1000 0x3f7a_0000 0x4a7a_0000 0x4afa_0000))
 
 pub answers : map (λ (r : Row). answer (r .hull)) table ≡ map (λ (r : Row). r .rule) table
-unfolding _&_ _or_ implies all firstBroken has firsts until ring h1 vertexInRange edgeInRange faceInRange h2 twinsAt h3 linkedAt h4 newNext
-    h5 ringHolds ringRight h6 fanHolds fanRight h7 boxOf vertexAt planeAt inside small moderate nearOne apart finiteAt smallAt inBox
-    vertexInBox planeRight planeRightAt endsApart edgeLong h8 isIn listed edgesWith any leads oneStepOn within h9 brokenRule le neg ofBits add sub mul
+unfolding knownUnit unitsPerMeter coordinateLimit offsetLimit edgeLimit _&_ _or_ implies all firstBroken has firsts until ring h1 vertexInRange edgeInRange
+    faceInRange h2 twinsAt h3 linkedAt h4 newNext h5 ringHolds ringRight h6 fanHolds fanRight h7 boxOf vertexAt planeAt inside withinLimit nearOne apart
+    finiteAt smallAt inBox vertexInBox planeRight planeRightAt endsApart edgeLong h8 isIn listed edgesWith any leads oneStepOn within h9 brokenRule le neg
+    ofBits add sub mul
 answers = refl
 
 -- ---- the largest pyramid: each side is gone round and left for the next one
@@ -102,7 +124,7 @@ pyramid-one-shell =
     }) refl refl refl
 
 pub pyramid-right : answer pyramid ≡ 0
-unfolding _&_ _or_ implies all firstBroken has firsts until ring h1 vertexInRange edgeInRange faceInRange h2 twinsAt h3 linkedAt h4 newNext
-    h5 ringHolds ringRight h6 fanHolds fanRight h7 boxOf vertexAt planeAt inside small moderate nearOne apart finiteAt smallAt inBox
-    vertexInBox planeRight planeRightAt endsApart edgeLong h8 brokenRule le neg ofBits add sub mul
+unfolding knownUnit unitsPerMeter coordinateLimit offsetLimit edgeLimit _&_ _or_ implies all firstBroken has firsts until ring h1 vertexInRange edgeInRange
+    faceInRange h2 twinsAt h3 linkedAt h4 newNext h5 ringHolds ringRight h6 fanHolds fanRight h7 boxOf vertexAt planeAt inside withinLimit nearOne apart
+    finiteAt smallAt inBox vertexInBox planeRight planeRightAt endsApart edgeLong h8 brokenRule le neg ofBits add sub mul
 pyramid-right = ap (λ (last : Bool). firstBroken 9 (last ∷ [])) pyramid-one-shell

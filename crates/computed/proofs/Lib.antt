@@ -9,3 +9,4 @@ pub mod LimitsCall
 pub mod LimitsCached
 pub mod LimitsCut
 pub mod LimitsFrames
+pub mod LimitsUnits

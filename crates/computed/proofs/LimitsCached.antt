@@ -1,13 +1,15 @@
 -- Both sides of speculative and slop where a cached axis is tried again, and where an edge contact is tried, one row each. Assumes nothing.
 use mathlib.Core.Path.{_≡_, refl}
 use mathlib.Core.Bool.{Bool, true, false}
-use mathlib.Core.List.{List, [], _∷_, map}
-use Prim.Native.Nat.{ℕ}
+use mathlib.Core.List.{List, [], _∷_, _++_, map}
+use Prim.Native.Nat.{ℕ, _+_, _-_}
 use lib.ListN.{getD}
 use lib.Dec.{eqb}
 use lib.Ieee.{Float, toBits}
 use lib.Ieee as Ieee
 use Rattle.root.specs.Root.{isqrt, pattern, rootOf}
+use Rattle.units.specs.Units.{unitsPerMeter}
+use Rattle.units.specs.Limits.{slop, speculative}
 use Rattle.vector.specs.declared.Transform.{Transform}
 use Rattle.vector.specs.Rounded.{float}
 use Rattle.vector.specs.Scalar.{absOf, minOf, maxOf}
@@ -40,7 +42,7 @@ use Rattle.collide_cached.specs.Again.{deepestBelowA, separationFromA, cachedFa
 use Rattle.collide_cached.specs.Ridges.{ridgeOf, carriedRidge, crossOver, wideOf, crossesOf, axisBetween}
 use Rattle.collide_full.specs.Full.{triesEdge, pairContact, insteadOf}
 use Rattle.computed.proofs.Rows.{Row, is, yes, no, given, said, bits, vec}
-use Rattle.computed.proofs.Shapes.{Sample, tetrahedron, upright, lying}
+use Rattle.computed.proofs.Shapes.{Sample, inUnit, tetrahedron, upright, lying}
 
 abbrev numbersOf : Sample → List Float
 numbersOf h = map float (h .bits)
@@ -58,25 +60,35 @@ fromA x = bits (separationFromA (tetrahedron .size) (numbersOf tetrahedron) (tet
 abbrev fromB : ℕ → ℕ
 fromB x = bits (separationFromB (tetrahedron .size) (numbersOf tetrahedron) (tetrahedron .size) (numbersOf tetrahedron) (across x) 2)
 
--- face 2 of A, and face 2 of B, tried again after this separation
+-- at this unit: face 2 of A, and face 2 of B, tried again after this separation
+abbrev againAIn : (unit x separation : ℕ) → Cached
+againAIn unit x separation =
+    let h = inUnit unit tetrahedron in
+    cachedFaceAOf (h .size) (numbersOf h) (h .links) (h .size) (numbersOf h) (h .links) (across x) (cache separation 2 9)
+
+abbrev againBIn : (unit x separation : ℕ) → Cached
+againBIn unit x separation =
+    let h = inUnit unit tetrahedron in
+    cachedFaceBOf (h .size) (numbersOf h) (h .links) (h .size) (numbersOf h) (h .links) (across x) (cache separation 9 2)
+
 abbrev againA : ℕ → ℕ → Cached
-againA x separation =
-    cachedFaceAOf (tetrahedron .size) (numbersOf tetrahedron) (tetrahedron .links) (tetrahedron .size) (numbersOf tetrahedron) (tetrahedron .links) (across x)
-    (cache separation 2 9)
+againA x separation = againAIn 1 x separation
 
 abbrev againB : ℕ → ℕ → Cached
-againB x separation =
-    cachedFaceBOf (tetrahedron .size) (numbersOf tetrahedron) (tetrahedron .links) (tetrahedron .size) (numbersOf tetrahedron) (tetrahedron .links) (across x)
-    (cache separation 9 2)
+againB x separation = againBIn 1 x separation
 
 -- two edges that cross, the second at (x, y, 0), not turned
 abbrev beside : ℕ → ℕ → Transform
 beside x y = record { p = vec x y 0; q = record { v = vec 0 0 0; s = float 0x3f80_0000 } }
 
 -- the pair of edges tried again after this separation, the second edge at x
+abbrev againEdgeIn : (unit x separation : ℕ) → Cached
+againEdgeIn unit x separation =
+    cachedEdgeOf (inUnit unit upright .size) (numbersOf upright) (upright .links) (inUnit unit lying .size) (numbersOf lying) (lying .links) (beside x 0)
+    (cache separation 0 0)
+
 abbrev againEdge : ℕ → ℕ → Cached
-againEdge x separation =
-    cachedEdgeOf (upright .size) (numbersOf upright) (upright .links) (lying .size) (numbersOf lying) (lying .links) (beside x 0) (cache separation 0 0)
+againEdge x separation = againEdgeIn 1 x separation
 
 -- the four dots of the sign tests, by their bits; the parallel test
 abbrev crossing : (cba dba adc bdc : ℕ) → Bool
@@ -85,9 +97,9 @@ crossing cba dba adc bdc = crossOver (float cba) (float dba) (float adc) (float 
 abbrev wide : (cba dba x y z : ℕ) → Bool
 wide cba dba x y z = wideOf (float cba) (float dba) (vec x y z)
 
--- two separations differ by less than slop
+-- two separations differ by less than slop, in metres
 abbrev near : ℕ → ℕ → Bool
-near a b = nearOf (cache a 0 0) (cache b 0 0)
+near a b = nearOf 1 (cache a 0 0) (cache b 0 0)
 
 -- what was built, by whether it touches and the bits of its separation; and whether that serves again after 0
 abbrev made : Bool → ℕ → Built
@@ -102,11 +114,26 @@ abbrev edge : ℕ → Axis
 edge separation = record { normal = vec 0x3f80_0000 0 0; separation = float separation; «index_a» = 0; «index_b» = 0 }
 
 -- the type that is left in the cache where the edge contact may replace one of two points at 0: 4 where it does. The second edge stands at y
-abbrev replaced : ℕ → ℕ → ℕ
-replaced y separation =
-    insteadOf (upright .size) (numbersOf upright) (upright .links) (lying .size) (numbersOf lying) (lying .links) (beside 0 y) (standing 2 0)
-    (edge separation)
+abbrev replacedIn : (unit y separation : ℕ) → ℕ
+replacedIn unit y separation =
+    insteadOf (inUnit unit upright .size) (numbersOf upright) (upright .links) (inUnit unit lying .size) (numbersOf lying) (lying .links) (beside 0 y)
+    (standing 2 0) (edge separation)
     .cache .kind
+
+abbrev replaced : ℕ → ℕ → ℕ
+replaced y separation = replacedIn 1 y separation
+
+-- a gap with these bits, negated as `across` takes it; the rows of one unit, given the bits of its slop s and its speculative distance f
+abbrev gap : ℕ → ℕ
+gap b = 0x8000_0000 + b
+
+abbrev bothSides : (unit s f : ℕ) → List Row
+bothSides unit s f =
+    yes (againAIn unit (gap f) 0 .hit) ∷ no (againAIn unit (gap (f - 1)) 0 .hit) ∷ no (eqb (againAIn unit (gap (f - 1)) (f - 1) .contact .count) 0)
+    ∷ yes (againBIn unit (gap f) 0 .hit) ∷ no (againBIn unit (gap (f - 1)) 0 .hit) ∷ no (eqb (againBIn unit (gap (f - 1)) (f - 1) .contact .count) 0)
+    ∷ yes (againEdgeIn unit (f + 1) 0 .hit) ∷ no (againEdgeIn unit f 0 .hit) ∷ is (againEdgeIn unit f f .contact .count) 1
+    ∷ is (replacedIn unit 0 s) 0 ∷ is (replacedIn unit 0 (s + 1)) 4
+    ∷ []
 
 abbrev table : List Row
 table =
@@ -122,8 +149,8 @@ table =
     ∷ no (near 0x3ba3_d70a 0) ∷ yes (near 0x3ba3_d709 0) ∷ no (near 0 0x3ba3_d70a) ∷ yes (near 0 0x3ba3_d709)
     ∷ no (near 0xbba3_d70a 0) ∷ yes (near 0xbba3_d709 0) ∷ no (near 0 0xbba3_d70a) ∷ yes (near 0 0xbba3_d709)
     ∷ yes (near 0 0) ∷ no (near 0x7fc0_0000 0) ∷ no (near 0 0x7fc0_0000)
-    ∷ yes (servedOf (cache 0 0 0) (made true 0x3ba3_d709) .hit) ∷ no (servedOf (cache 0 0 0) (made true 0x3ba3_d70a) .hit)
-    ∷ no (servedOf (cache 0 0 0) (made false 0) .hit)
+    ∷ yes (servedOf 1 (cache 0 0 0) (made true 0x3ba3_d709) .hit) ∷ no (servedOf 1 (cache 0 0 0) (made true 0x3ba3_d70a) .hit)
+    ∷ no (servedOf 1 (cache 0 0 0) (made false 0) .hit)
     -- "Type 4: the three sign tests,": each product strictly on its side of 0
     ∷ yes (crossing 0x3f80_0000 0x8000_0001 0xbf80_0000 0x3f80_0000) ∷ no (crossing 0x3f80_0000 0x8000_0000 0xbf80_0000 0x3f80_0000)
     ∷ no (crossing 0x3f80_0000 0 0xbf80_0000 0x3f80_0000)
@@ -144,21 +171,23 @@ table =
     ∷ is (getD (againEdge 0xbca3_d70a 0xbca3_d70a .contact .points) 0 pastPoint .place) 0
     ∷ is (getD (againEdge 0xbca3_d70a 0xbca3_d70a .contact .points) 1 pastPoint .place) 255
     -- "The edge contact is then tried if there is a pair and either no points stand or the edge separation is strictly above the cache's plus slop;"
-    ∷ no (triesEdge (standing 1 0) (edge 0x3ba3_d70a)) ∷ yes (triesEdge (standing 1 0) (edge 0x3ba3_d70b))
-    ∷ no (triesEdge (standing 1 0) (edge 0x3ba3_d709))
-    ∷ yes (triesEdge (standing 0 0) (edge 0xff80_0000)) ∷ no (triesEdge (standing 1 0) (edge 0x7fc0_0000))
-    ∷ no (triesEdge (standing 4 0xbf80_0000) (edge 0xbf7e_b852)) ∷ yes (triesEdge (standing 4 0xbf80_0000) (edge 0xbf7e_b851))
+    ∷ no (triesEdge 1 (standing 1 0) (edge 0x3ba3_d70a)) ∷ yes (triesEdge 1 (standing 1 0) (edge 0x3ba3_d70b))
+    ∷ no (triesEdge 1 (standing 1 0) (edge 0x3ba3_d709))
+    ∷ yes (triesEdge 1 (standing 0 0) (edge 0xff80_0000)) ∷ no (triesEdge 1 (standing 1 0) (edge 0x7fc0_0000))
+    ∷ no (triesEdge 1 (standing 4 0xbf80_0000) (edge 0xbf7e_b852)) ∷ yes (triesEdge 1 (standing 4 0xbf80_0000) (edge 0xbf7e_b851))
     -- "it replaces contact and cache only if it made its one point.": where the nearest points lie within both edges, ends too
     ∷ is (replaced 0 0x3ba3_d70a) 0 ∷ is (replaced 0 0x3ba3_d70b) 4 ∷ is (replaced 0x3f80_0000 0x3ba3_d70b) 4 ∷ is (replaced 0x3f80_0002 0x3ba3_d70b) 0
     ∷ is (replaced 0xbf80_0000 0x3ba3_d70b) 4 ∷ is (replaced 0xbf80_0001 0x3ba3_d70b) 0
-    ∷ []
+    -- the same at the other units, 10, 100 and 1000 a metre: "multiplied by it, as are slop, speculative distance" (document 02, i). At or above
+    -- speculative a face serves with no points, strictly above it a pair of edges; one float nearer each is built and has points; slop strictly passed
+    ∷ (bothSides 10 0x3d4c_cccc 0x3e4c_cccc ++ (bothSides 100 0x3f00_0000 0x4000_0000 ++ bothSides 1000 0x40a0_0000 0x41a0_0000))
 
 pub limits : given table ≡ said table
-unfolding isqrt pattern rootOf absOf minOf maxOf addOf subOf negOf dotOf crossOf lengthSquaredOf mulSvOf mulAddOf mulSubOf lerpOf normalizeOf
-    planeSeparationOf planeOf fartherOf farthestOf supportVertexOf arbitraryPerpOf lineDistanceOf isFractionOf isWithinSegmentsOf matrixOf mulMvOf rotateOf
-    invRotateOf transformPointOf invTransformPointOf invertOf ownerOf pairOf flipOf turns until ring vertexAt planeAt supportAt meetingOf leavingOf
-    enteringOf putOutOf cutFrom lastOf cutOf projectionOf flatterOf flattestFrom flattestOf lowerFaceOf incidentFaceOf taggedOf cornerOf builtOf
-    sidePlaneOf cutOn goesOn cutRound candidatesOf imageOf leastSeparationOf touchingOf betterPickOf asGoodOf reachOf firstTurn acrossOf spreadOf
+unfolding unitsPerMeter slop speculative isqrt pattern rootOf absOf minOf maxOf addOf subOf negOf dotOf crossOf lengthSquaredOf mulSvOf mulAddOf mulSubOf
+    lerpOf normalizeOf planeSeparationOf planeOf fartherOf farthestOf supportVertexOf arbitraryPerpOf lineDistanceOf isFractionOf isWithinSegmentsOf
+    matrixOf mulMvOf rotateOf invRotateOf transformPointOf invTransformPointOf invertOf ownerOf pairOf flipOf turns until ring vertexAt planeAt supportAt
+    meetingOf leavingOf enteringOf putOutOf cutFrom lastOf cutOf projectionOf flatterOf flattestFrom flattestOf lowerFaceOf incidentFaceOf taggedOf cornerOf
+    builtOf sidePlaneOf cutOn goesOn cutRound candidatesOf imageOf leastSeparationOf touchingOf betterPickOf asGoodOf reachOf firstTurn acrossOf spreadOf
     signedAreaOf sideOf outsideOf triangleOf without taken firstBest secondBest thirdBest fourthBest fourthPicks thirdPicks secondPicks firstPicks
     allOrPicked pointsOf pointOf placedFrom normalOf contactOf imagesOn picksOn carriedOf contactOnA contactOnB onFace faceAOf faceBOf edgePoint alongOf
     nearestOf edgeContactOf touchedOf nearOf servedOf deepestBelowA separationFromA cachedFaceAOf deepestBelowB separationFromB cachedFaceBOf cachedEdgeOf

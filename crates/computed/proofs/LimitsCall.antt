@@ -9,6 +9,8 @@ use lib.Ieee.{Float, toBits}
 use lib.Ieee as Ieee
 use Rattle.root.specs.Root.{isqrt, pattern, rootOf}
 use Rattle.bounds.specs.LowBits.{patternOf, embedOf, indexOf}
+use Rattle.units.specs.Units.{knownUnit, unitsPerMeter}
+use Rattle.units.specs.Limits.{slop, speculative, huge, coordinateLimit, offsetLimit, edgeLimit}
 use Rattle.vector.specs.declared.Transform.{Transform}
 use Rattle.vector.specs.Rounded.{float}
 use Rattle.vector.specs.Scalar.{absOf, minOf, maxOf}
@@ -24,7 +26,7 @@ use Rattle.hull_links.specs.Tests.{_&_, _or_, implies, all, firstBroken}
 use Rattle.hull_links.specs.Walks.{has, firsts, until, ring}
 use Rattle.hull_links.specs.Rules.{h1, vertexInRange, edgeInRange, faceInRange, h2, twinsAt, h3, linkedAt, h4, newNext, h5}
 use Rattle.hull_links.specs.Rules.{ringHolds, ringRight, h6, fanHolds, fanRight, h7}
-use Rattle.hull_limits.specs.Measures.{inside, small, moderate, nearOne, apart, inBox, planeRight, endsApart}
+use Rattle.hull_limits.specs.Measures.{inside, withinLimit, nearOne, apart, inBox, planeRight, endsApart}
 use Rattle.hull_limits.specs.Transform.{transformRight}
 use Rattle.hull.specs.Rule8.{finiteAt, smallAt, vertexInBox, planeRightAt, edgeLong, h8, brokenRule}
 use Rattle.hull_shell.specs.Shell.{isIn, listed, edgesWith, any, leads, oneStepOn, within, h9}
@@ -51,7 +53,7 @@ use Rattle.collide_cached.specs.Ridges.{ridgeOf, carriedRidge, crossOver, wideO
 use Rattle.collide_full.specs.Full.{apartBuilt, contactA, contactB, winnerContact, withEdge, foundContact, afterSearch, fullOf}
 use Rattle.collide.specs.Call.{afterCached, workedOf, collideOf}
 use Rattle.computed.proofs.Rows.{Row, row, is, yes, no, given, said, bits, vec, sizes}
-use Rattle.computed.proofs.Shapes.{Sample, tetrahedron, upright, lying}
+use Rattle.computed.proofs.Shapes.{Sample, inUnit, tetrahedron, upright, lying}
 
 abbrev cache : (separation kind a b hit : ℕ) → SatCache
 cache separation kind a b hit = record { separation = separation; kind = kind; «index_a» = a; «index_b» = b; hit = hit }
@@ -101,6 +103,23 @@ numbersOf h = map float (h .bits)
 -- the refusal before any work
 abbrev refusal : Sample → Sample → Transform → SatCache → ℕ
 refusal a b x c = refusalOf (a .size) (numbersOf a) (a .links) (b .size) (numbersOf b) (b .links) x c
+
+-- a transform and a cache that are refused by 3 and by 4; two tetrahedra at these units, with a transform at this height and a cache of type 2 for this face
+abbrev nowhere : Transform
+nowhere = at 0 0x7fc0_0000
+
+abbrev unserved : SatCache
+unserved = cache 0 2 4 4 0
+
+abbrev both : (a b z face : ℕ) → ℕ
+both a b z face = refusal (inUnit a tetrahedron) (inUnit b tetrahedron) (at 0 z) (cache 0 2 face 0 0)
+
+-- the call of two tetrahedra of units 1 and 10, with this capacity, any transform and a cache of type 2 and any other bits
+abbrev unlike : ℤ → List ℕ
+unlike capacity =
+    told
+    (collideOf (tetrahedron .size) (numbersOf tetrahedron) (tetrahedron .links) (inUnit 10 tetrahedron .size) (numbersOf tetrahedron) (tetrahedron .links)
+    nowhere capacity (cache 0x7f80_0001 2 9 9 1))
 
 -- the call of two hulls of nothing, with this capacity and a cache of this type and any other bits; and that cache with this status
 abbrev called : ℤ → ℕ → List ℕ
@@ -160,6 +179,17 @@ table =
     ∷ is (refusal tetrahedron tetrahedron (at 0 0x4580_0001) (cache 0 2 4 4 0)) 3
     ∷ is (refusal tetrahedron tetrahedron (at 0 0x4580_0000) (cache 0 2 4 4 0)) 4
     ∷ is (refusal tetrahedron tetrahedron (at 0 0x4580_0000) (cache 0 2 3 4 0)) 0
+    -- document 02, i: "17, units differ, after 2 and before 3"; "H1 also for an unknown unit", of A and of B
+    ∷ is (refusal nothing (inUnit 10 tetrahedron) nowhere unserved) 1 ∷ is (refusal (inUnit 10 nothing) tetrahedron nowhere unserved) 1
+    ∷ is (refusal tetrahedron (inUnit 10 nothing) nowhere unserved) 2 ∷ is (refusal (inUnit 10 tetrahedron) nothing nowhere unserved) 2
+    ∷ is (both 2 2 0 0) 1 ∷ is (both 2 1 0 0) 1 ∷ is (both 1 2 0 0) 2
+    ∷ is (both 1 10 0x7fc0_0000 4) 17 ∷ is (both 1 10 0x7fc0_0000 0) 17 ∷ is (both 1 10 0 4) 17 ∷ is (both 1 10 0 0) 17
+    ∷ is (both 10 1 0 0) 17 ∷ is (both 10 100 0 0) 17 ∷ is (both 1000 100 0 0) 17
+    ∷ row (unlike (pos 4)) (untouched 17 2) ∷ row (unlike (pos 3)) (untouched 0 2)
+    -- of one unit the transform's limit goes by it: 40960 at 10, 409600 at 100, 4096000 at 1000
+    ∷ is (both 10 10 0x7fc0_0000 4) 3 ∷ is (both 10 10 0x4720_0001 4) 3 ∷ is (both 10 10 0x4720_0001 0) 3 ∷ is (both 10 10 0x4720_0000 4) 4
+    ∷ is (both 10 10 0x4720_0000 3) 0 ∷ is (both 1 1 0x4720_0000 3) 3
+    ∷ is (both 100 100 0x48c8_0001 3) 3 ∷ is (both 100 100 0x48c8_0000 3) 0 ∷ is (both 1000 1000 0x4a7a_0001 3) 3 ∷ is (both 1000 1000 0x4a7a_0000 3) 0
     -- "4: the cache's type is 2 and index_a >= F of A;"
     ∷ yes (served 2 3 255) ∷ no (served 2 4 0) ∷ no (served 2 255 0)
     -- "3 and index_b >= F of B;"
@@ -200,18 +230,18 @@ table =
     ∷ []
 
 pub limits : given table ≡ said table
-unfolding isqrt pattern rootOf patternOf embedOf indexOf absOf minOf maxOf addOf subOf negOf absVecOf dotOf crossOf lengthSquaredOf mulSvOf mulAddOf
-    mulSubOf lerpOf normalizeOf planeSeparationOf planeOf centerOf extentsOf fartherOf farthestOf supportVertexOf embedWOf leastOf leastWOf lesserOf
-    minIndexOf matrixOf transposeOf mulMvOf rotateOf invRotateOf transformPointOf invTransformPointOf invertOf ownerOf pairOf turns _&_ _or_ implies all
-    firstBroken has firsts until ring h1 vertexInRange edgeInRange faceInRange h2 twinsAt h3 linkedAt h4 newNext h5 ringHolds ringRight h6 fanHolds
-    fanRight h7 inside small moderate nearOne apart inBox planeRight endsApart transformRight finiteAt smallAt vertexInBox planeRightAt edgeLong h8
-    isIn listed edgesWith any leads oneStepOn within h9
-    brokenRule boxOf vertexAt planeAt supportAt stopsOf betterOf leadAfter supportValueOf groupOf splatOf leastLanes supportOf biasOf directionOf exactOf
-    faceAxisOf faceSeparationOf farthestVertexOf faceTakenOf faceOf faceSearchOf dotRight differenceOf sumOf edgeOfA turnedNormal turnedPoint edgeOfB
-    passesOf parallelOf betweenOf axisAcrossOf edgeSeparationOf triedOf edgePairOf rowPairs allPairs axisOf apartOf edgeOf foundOf
-    searchAnswerOf sideOfA sideOfB pairsOf searchOf cacheOf putOutOf cutFrom lastOf cutOf projectionOf flatterOf flattestFrom flattestOf
-    lowerFaceOf incidentFaceOf taggedOf cornerOf builtOf sidePlaneOf cutOn goesOn cutRound candidatesOf leastSeparationOf touchingOf onFace faceAOf faceBOf
-    retiredOf answerOf nearOf servedOf firstHalf cacheRight refusalOf deepestBelowA separationFromA cachedFaceAOf deepestBelowB separationFromB cachedFaceBOf
-    cachedEdgeOf ridgeOf carriedRidge crossOver wideOf crossesOf axisBetween apartBuilt contactA contactB winnerContact withEdge foundContact afterSearch
-    fullOf afterCached workedOf collideOf Ieee.size Ieee.ofBits toBits Ieee.lt Ieee.le Ieee.neg Ieee.sub Ieee.div Ieee.add Ieee.mul
+unfolding knownUnit unitsPerMeter slop speculative huge coordinateLimit offsetLimit edgeLimit isqrt pattern rootOf patternOf embedOf indexOf absOf minOf
+    maxOf addOf subOf negOf absVecOf dotOf crossOf lengthSquaredOf mulSvOf mulAddOf mulSubOf lerpOf normalizeOf planeSeparationOf planeOf centerOf extentsOf
+    fartherOf farthestOf supportVertexOf embedWOf leastOf leastWOf lesserOf minIndexOf matrixOf transposeOf mulMvOf rotateOf invRotateOf transformPointOf
+    invTransformPointOf invertOf ownerOf pairOf turns _&_ _or_ implies all firstBroken has firsts until ring h1 vertexInRange edgeInRange faceInRange h2
+    twinsAt h3 linkedAt h4 newNext h5 ringHolds ringRight h6 fanHolds fanRight h7 inside withinLimit nearOne apart inBox planeRight endsApart transformRight
+    finiteAt smallAt vertexInBox planeRightAt edgeLong h8 isIn listed edgesWith any leads oneStepOn within h9 brokenRule boxOf vertexAt planeAt supportAt
+    stopsOf betterOf leadAfter supportValueOf groupOf splatOf leastLanes supportOf biasOf directionOf exactOf faceAxisOf faceSeparationOf farthestVertexOf
+    faceTakenOf faceOf faceSearchOf dotRight differenceOf sumOf edgeOfA turnedNormal turnedPoint edgeOfB passesOf parallelOf betweenOf axisAcrossOf
+    edgeSeparationOf triedOf edgePairOf rowPairs allPairs axisOf apartOf edgeOf foundOf searchAnswerOf sideOfA sideOfB pairsOf searchOf cacheOf putOutOf
+    cutFrom lastOf cutOf projectionOf flatterOf flattestFrom flattestOf lowerFaceOf incidentFaceOf taggedOf cornerOf builtOf sidePlaneOf cutOn goesOn
+    cutRound candidatesOf leastSeparationOf touchingOf onFace faceAOf faceBOf retiredOf answerOf nearOf servedOf firstHalf cacheRight refusalOf
+    deepestBelowA separationFromA cachedFaceAOf deepestBelowB separationFromB cachedFaceBOf cachedEdgeOf ridgeOf carriedRidge crossOver wideOf crossesOf
+    axisBetween apartBuilt contactA contactB winnerContact withEdge foundContact afterSearch fullOf afterCached workedOf collideOf Ieee.size Ieee.ofBits
+    toBits Ieee.lt Ieee.le Ieee.neg Ieee.sub Ieee.div Ieee.add Ieee.mul
 limits = refl

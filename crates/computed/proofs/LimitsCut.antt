@@ -4,8 +4,10 @@ use mathlib.Core.Bool.{Bool, true}
 use mathlib.Core.List.{List, [], _∷_, _++_, map}
 use Prim.Native.Nat.{ℕ, _*_}
 use lib.ListN.{length, replicate}
-use lib.Ieee.{toBits}
+use lib.Ieee.{Float, toBits}
 use lib.Ieee as Ieee
+use Rattle.units.specs.Units.{unitsPerMeter}
+use Rattle.units.specs.Limits.{slop, speculative}
 use Rattle.vector.specs.declared.Vec3.{Vec3}
 use Rattle.vector.specs.declared.Plane.{Plane}
 use Rattle.vector.specs.declared.Transform.{Transform}
@@ -37,6 +39,10 @@ use Rattle.contacts.specs.Faces.{imagesOn, picksOn, carriedOf, contactOnA, cont
 use Rattle.collide_outcome.specs.declared.Built.{Built}
 use Rattle.collide_outcome.specs.Builds.{touchedOf}
 use Rattle.computed.proofs.Rows.{Row, row, is, yes, no, given, said, bits, vec, sizes}
+
+-- the speculative distance in metres
+abbrev far : Float
+far = speculative 1
 
 abbrev o : Vec3
 o = vec 0 0 0
@@ -84,14 +90,14 @@ abbrev lent : ℕ → Bool
 lent n = packedOf [] [] 0 n .full
 
 abbrev onto : List ClipVertex → Built
-onto candidates = onFace emptyContact 2 3 4 candidates
+onto candidates = onFace 1 emptyContact 2 3 4 candidates
 
 -- the places that points say, and those of so many candidates at one position
 abbrev places : List Point → List ℕ
 places points = map (λ (p : Point). p .place) points
 
 abbrev placesOfPicks : ℕ → List ℕ
-placesOfPicks n = places (pointsOf (firstPicks (vec 0x3f80_0000 0 0) up (many n)) (many n))
+placesOfPicks n = places (pointsOf (firstPicks far (vec 0x3f80_0000 0 0) up (many n)) (many n))
 
 -- half a turn about z, to (0, 0, 1)
 abbrev turn : Transform
@@ -99,18 +105,18 @@ turn = record { p = up; q = record { v = up; s = float 0 } }
 
 -- the first pick of one candidate at this separation
 abbrev pick1 : ℕ → List ℕ
-pick1 separation = firstPicks (vec 0x3f80_0000 0 0) up (corner 0 0 separation ∷ [])
+pick1 separation = firstPicks far (vec 0x3f80_0000 0 0) up (corner 0 0 separation ∷ [])
 
 -- the second, after one at the origin, of one at (x, 0, 0), this deep
 abbrev pick2 : ℕ → ℕ → List ℕ
-pick2 x separation = secondPicks up (corner 0 0 0) (corner x 0 separation ∷ [])
+pick2 x separation = secondPicks far up (corner 0 0 0) (corner x 0 separation ∷ [])
 
 -- the third, after (0, 0, 0) and (1, 0, 0), of one at (0, y, 0); the fourth, after (0, 1, 0) too, of one at (1/4, y, 0)
 abbrev pick3 : ℕ → List ℕ
-pick3 y = thirdPicks up (corner 0 0 0) (corner 0x3f80_0000 0 0) (corner 0 y 0 ∷ [])
+pick3 y = thirdPicks far up (corner 0 0 0) (corner 0x3f80_0000 0 0) (corner 0 y 0 ∷ [])
 
 abbrev pick4 : ℕ → List ℕ
-pick4 y = fourthPicks up (corner 0 0 0) (corner 0x3f80_0000 0 0) (corner 0 0x3f80_0000 0) (corner 0x3e80_0000 y 0 ∷ [])
+pick4 y = fourthPicks far up (corner 0 0 0) (corner 0x3f80_0000 0 0) (corner 0 0x3f80_0000 0) (corner 0x3e80_0000 y 0 ∷ [])
 
 -- the best is number 3 at this score; number 8 comes with a score of 1, which counts as 0.95
 abbrev best : ℕ → Best
@@ -154,8 +160,9 @@ table =
     ∷ no (clippedOf (many 64) .full) ∷ yes (clippedOf (many 65) .full) ∷ is (clippedOf (many 65) .polygon .count) 64 ∷ no (lent 64) ∷ yes (lent 65)
     ∷ is (onto (many 64) .status) 0 ∷ is (onto (many 65) .status) 6
     -- "Fewer than 3 left, or least separation at or above speculative: not touching, cache cleared."
-    ∷ no (touchingOf 2 (float 0)) ∷ yes (touchingOf 3 (float 0)) ∷ no (touchingOf 3 (float 0x3ca3_d70b)) ∷ no (touchingOf 3 (float 0x3ca3_d70a))
-    ∷ yes (touchingOf 3 (float 0x3ca3_d709)) ∷ is (onto (many 2) .cache .kind) 0 ∷ is (onto (many 3) .cache .kind) 2
+    ∷ no (touchingOf far 2 (float 0)) ∷ yes (touchingOf far 3 (float 0)) ∷ no (touchingOf far 3 (float 0x3ca3_d70b))
+    ∷ no (touchingOf far 3 (float 0x3ca3_d70a)) ∷ yes (touchingOf far 3 (float 0x3ca3_d709))
+    ∷ is (onto (many 2) .cache .kind) 0 ∷ is (onto (many 3) .cache .kind) 2
     ∷ is (bits (leastSeparationOf (corner 0 0 0x3f80_0000 ∷ corner 0 0 0xbf80_0000 ∷ corner 0 0 0 ∷ []))) 0xbf80_0000
     ∷ is (bits (leastSeparationOf [])) 0x7f7f_ffff
     -- "A candidate's image is its position less half its separation along the reference normal,": 1 - 2 / 2, and 1 + 2 / 2
@@ -172,7 +179,7 @@ table =
     ∷ row (places (pointsOf (4 ∷ 3 ∷ 2 ∷ 0 ∷ []) (many 5))) (4 ∷ 3 ∷ 2 ∷ 0 ∷ [])
     ∷ row (places (pointsOf (1 ∷ 1 ∷ 1 ∷ []) (many 4))) (0 ∷ 1 ∷ 2 ∷ 3 ∷ [])
     -- "the face contacts hand it up", of a face of A and of B; "unused places 255"
-    ∷ row (places (contactOnA up (many 3) .points)) (0 ∷ 1 ∷ 2 ∷ 255 ∷ []) ∷ row (places (contactOnB turn up (many 3) .points)) (0 ∷ 1 ∷ 2 ∷ 255 ∷ [])
+    ∷ row (places (contactOnA 1 up (many 3) .points)) (0 ∷ 1 ∷ 2 ∷ 255 ∷ []) ∷ row (places (contactOnB 1 turn up (many 3) .points)) (0 ∷ 1 ∷ 2 ∷ 255 ∷ [])
     ∷ row (places (emptyContact .points)) (255 ∷ 255 ∷ 255 ∷ 255 ∷ [])
     -- "each pick's place filled by the last candidate."
     ∷ row (without 0 (10 ∷ 11 ∷ 12 ∷ 13 ∷ []) 1) (10 ∷ 13 ∷ 12 ∷ []) ∷ row (without 0 (10 ∷ 11 ∷ 12 ∷ 13 ∷ []) 3) (10 ∷ 11 ∷ 12 ∷ [])
@@ -186,7 +193,7 @@ table =
     ∷ row (pick1 0x3ca3_d709) (0 ∷ []) ∷ row (pick1 0x3ca3_d70a) (0 ∷ []) ∷ row (pick1 0x3ca3_d70b) []
     ∷ is (bits (reachOf (vec 0x3f80_0000 0 0) (corner 0x3f80_0000 0 0xbf80_0000))) 0x4000_0000
     -- second, "farthest point in 2D": at speculative squared or above it is picked
-    ∷ is (bits tolerance) 0x39d1_b717
+    ∷ is (bits (tolerance far)) 0x39d1_b717
     ∷ row (pick2 0x3ca3_d70a 0) (0 ∷ []) ∷ row (pick2 0x3ca3_d709 0) [] ∷ row (pick2 0 0x3f80_0000) [] ∷ row (pick2 0 0xbf80_0000) (0 ∷ [])
     -- third, "maximum triangular area": 0.95 of it at speculative squared or above, either way round
     ∷ row (pick3 0x39dc_c0ba) (0 ∷ []) ∷ row (pick3 0x39dc_c0b9) [] ∷ row (pick3 0xb9dc_c0ba) (0 ∷ []) ∷ row (pick3 0xb9dc_c0b9) []
@@ -203,10 +210,10 @@ table =
     ∷ []
 
 pub limits : given table ≡ said table
-unfolding absOf minOf maxOf minIntOf addOf subOf negOf dotOf crossOf lengthSquaredOf mulAddOf mulSubOf planeSeparationOf matrixOf mulMvOf flipOf turns
-    until ring vertexAt planeAt cornerIn cornersIn packedOf clippedOf meetingOf leavingOf enteringOf putOutOf flatterOf lowerFaceOf builtOf goesOn imageOf
-    leastSeparationOf touchingOf betterPickOf asGoodOf reachOf firstTurn acrossOf spreadOf signedAreaOf sideOf outsideOf triangleOf without standing taken
-    firstBest secondBest thirdBest fourthBest fourthPicks thirdPicks secondPicks firstPicks allOrPicked pointsOf numbered placesOf pointOf placedFrom
-    normalOf contactOf arbitraryPerpOf imagesOn picksOn carriedOf contactOnA contactOnB onFace touchedOf Ieee.size Ieee.ofBits toBits Ieee.lt Ieee.le
-    Ieee.neg Ieee.sub Ieee.div Ieee.add Ieee.mul
+unfolding unitsPerMeter slop speculative absOf minOf maxOf minIntOf addOf subOf negOf dotOf crossOf lengthSquaredOf mulAddOf mulSubOf planeSeparationOf
+    matrixOf mulMvOf flipOf turns until ring vertexAt planeAt cornerIn cornersIn packedOf clippedOf meetingOf leavingOf enteringOf putOutOf flatterOf
+    lowerFaceOf builtOf goesOn imageOf leastSeparationOf touchingOf betterPickOf asGoodOf reachOf firstTurn acrossOf spreadOf signedAreaOf sideOf outsideOf
+    triangleOf without standing taken firstBest secondBest thirdBest fourthBest fourthPicks thirdPicks secondPicks firstPicks allOrPicked pointsOf numbered
+    placesOf pointOf placedFrom normalOf contactOf arbitraryPerpOf imagesOn picksOn carriedOf contactOnA contactOnB onFace touchedOf Ieee.size Ieee.ofBits
+    toBits Ieee.lt Ieee.le Ieee.neg Ieee.sub Ieee.div Ieee.add Ieee.mul
 limits = refl

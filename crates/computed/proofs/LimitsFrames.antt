@@ -7,6 +7,7 @@ use lib.ListN.{length, take, drop, set, replicate}
 use lib.Ieee.{toBits}
 use lib.Ieee as Ieee
 use Rattle.root.specs.Root.{isqrt, pattern, rootOf}
+use Rattle.units.specs.Units.{knownUnit}
 use Rattle.vector.specs.Rounded.{float}
 use Rattle.vector.specs.Arithmetic.{zeroVec}
 use Rattle.manifold.specs.declared.Point.{Point}
@@ -14,6 +15,7 @@ use Rattle.manifold.specs.declared.Contact.{Contact}
 use Rattle.manifold.specs.declared.SatCache.{SatCache}
 use Rattle.manifold.specs.Records.{zeroPair, emptyContact}
 use Rattle.manifold.specs.Pairs.{flipOf}
+use Rattle.hull_links.specs.declared.HullSize.{HullSize}
 use Rattle.hull_links.specs.Tests.{_&_, _or_, all, firstBroken}
 use Rattle.hull_links.specs.Rules.{h1}
 use Rattle.hull.specs.Rule8.{brokenRule}
@@ -22,14 +24,14 @@ use Rattle.collide_refusals.specs.Refusals.{refusalOf}
 use Rattle.collide.specs.Call.{collideOf}
 use Rattle.frame_encode.specs.Bytes.{floatBytes, cacheBytes, answerBytes}
 use Rattle.frame_decode.specs.Fields as Fields
-use Rattle.frame_decode.specs.Fields.{signed}
-use Rattle.frame_decode.specs.Hulls.{numbersOf, linksOf, numbersTaken}
+use Rattle.frame_decode.specs.Fields.{signed, sizeAt}
+use Rattle.frame_decode.specs.Hulls.{linksFrom, hullLength, numbersOf, linksOf, numbersTaken}
 use Rattle.frame_hex.specs.Hex.{hexDigit, digitValueOf, digitOf, hexAt, hexLine, byteOf, hexOf}
 use Rattle.frame_call.specs.Requests.{callOf}
 use Rattle.frame.specs.Frames.{rootAnswer, flippedAnswer, flipAnswer, callAnswer, frameAnswer}
 use Rattle.frame.specs.Lines.{answeredOf, lineAnswer}
 use Rattle.stream.specs.Told.{told, toldLast}
-use Rattle.computed.proofs.Rows.{Row, row, is, yes, no, given, said, bits, sizes}
+use Rattle.computed.proofs.Rows.{Row, row, is, yes, no, given, said, bits, sizes, sizesAt}
 
 -- the bits of the root of the number with these bits
 abbrev root : ℕ → ℕ
@@ -55,7 +57,7 @@ placedAt a b c d = record { points = pointAt a ∷ pointAt b ∷ pointAt c ∷ p
 abbrev behindPoints : Contact → List ℕ
 behindPoints contact = drop 103 (answerBytes (accepted 7 contact cache))
 
--- a frame of kind 12 with this capacity and so many zeros behind it: 96 of them are a cache, a transform and two hulls of nothing
+-- a frame of kind 12 with this capacity and so many zeros behind it: 100 of them are a cache, a transform and two hulls of nothing
 abbrev call : ℕ → ℕ → List ℕ
 call capacity zeros = 0x12 ∷ 0 ∷ 0 ∷ 0 ∷ capacity ∷ replicate zeros 0
 
@@ -65,6 +67,10 @@ answer f = length (frameAnswer f) ∷ take 2 (frameAnswer f)
 
 abbrev fault : ℕ → List ℕ
 fault number = 2 ∷ 0xff ∷ number ∷ []
+
+-- the four numbers that a hull begins with
+abbrev header : HullSize → List ℕ
+header s = s .unit ∷ s .vertices ∷ s .«half_edges» ∷ s .faces ∷ []
 
 -- so many characters z
 abbrev zs : ℕ → List ℕ
@@ -104,12 +110,23 @@ table =
     -- hull's by its V, H, F as sent)"
     ∷ is (length (answerBytes (accepted 0 emptyContact cache))) 108
     ∷ row (behindPoints emptyContact) (255 ∷ 255 ∷ 255 ∷ 255 ∷ 7 ∷ []) ∷ row (behindPoints (placedAt 9 4 2 6)) (9 ∷ 4 ∷ 2 ∷ 6 ∷ 7 ∷ [])
-    ∷ row (answer (call 3 96)) (108 ∷ 0x92 ∷ 0 ∷ []) ∷ row (answer (call 4 96)) (108 ∷ 0x92 ∷ 1 ∷ [])
-    ∷ row (answer (call 3 95)) (fault 0x23) ∷ row (answer (call 3 97)) (fault 0x23)
+    ∷ row (answer (call 3 100)) (108 ∷ 0x92 ∷ 0 ∷ []) ∷ row (answer (call 4 100)) (108 ∷ 0x92 ∷ 1 ∷ [])
+    ∷ row (answer (call 3 99)) (fault 0x23) ∷ row (answer (call 3 101)) (fault 0x23)
     -- hull A of one vertex asks for 49 bytes more, of one half-edge for 4, of one face for 17; hull B likewise
-    ∷ row (answer (set (call 3 96) 42 1)) (fault 0x23) ∷ row (answer (set (call 3 145) 42 1)) (108 ∷ 0x92 ∷ 0 ∷ [])
-    ∷ row (answer (set (call 3 100) 44 1)) (108 ∷ 0x92 ∷ 0 ∷ []) ∷ row (answer (set (call 3 113) 46 1)) (108 ∷ 0x92 ∷ 0 ∷ [])
-    ∷ row (answer (set (call 3 145) 72 1)) (108 ∷ 0x92 ∷ 0 ∷ []) ∷ row (answer (set (call 3 144) 72 1)) (fault 0x23)
+    ∷ row (answer (set (call 3 100) 44 1)) (fault 0x23) ∷ row (answer (set (call 3 149) 44 1)) (108 ∷ 0x92 ∷ 0 ∷ [])
+    ∷ row (answer (set (call 3 104) 46 1)) (108 ∷ 0x92 ∷ 0 ∷ []) ∷ row (answer (set (call 3 117) 48 1)) (108 ∷ 0x92 ∷ 0 ∷ [])
+    ∷ row (answer (set (call 3 149) 76 1)) (108 ∷ 0x92 ∷ 0 ∷ []) ∷ row (answer (set (call 3 148) 76 1)) (fault 0x23)
+    -- document 02, i: "Frames of kind 12 carry it as two bytes before each hull's V.": the high byte first, and whatever it is, the hull is as long
+    ∷ row (header (sizeAt (0 ∷ 1 ∷ 0 ∷ 8 ∷ 0 ∷ 24 ∷ 0 ∷ 6 ∷ []) 0)) (1 ∷ 8 ∷ 24 ∷ 6 ∷ [])
+    ∷ row (header (sizeAt (9 ∷ 3 ∷ 0xe8 ∷ 0 ∷ 65 ∷ 1 ∷ 0 ∷ 0 ∷ 65 ∷ []) 1)) (1000 ∷ 65 ∷ 256 ∷ 65 ∷ [])
+    ∷ row (header (sizeAt (1 ∷ 0 ∷ 0 ∷ 4 ∷ 0 ∷ 12 ∷ 0 ∷ 5 ∷ []) 0)) (256 ∷ 4 ∷ 12 ∷ 5 ∷ [])
+    ∷ row (header (sizeAt (0xff ∷ 0xff ∷ 0 ∷ 0 ∷ 0 ∷ 0 ∷ 0 ∷ 0 ∷ []) 0)) (65535 ∷ 0 ∷ 0 ∷ 0 ∷ [])
+    ∷ is (hullLength (sizes 0 0 0)) 32 ∷ is (hullLength (sizesAt 0 0 0 0)) 32 ∷ is (hullLength (sizes 4 12 4)) 200 ∷ is (hullLength (sizesAt 10 8 24 6)) 334
+    ∷ is (hullLength (sizesAt 1000 128 256 128)) 4896 ∷ is (hullLength (sizesAt 65535 128 256 128)) 4896
+    ∷ is (linksFrom (sizesAt 100 0 0 0) 41) 73 ∷ is (linksFrom (sizesAt 100 5 0 0) 41) 169
+    -- a unit of A and of B in a frame of kind 12 asks for no more bytes: its high byte and its low one
+    ∷ row (answer (set (call 3 100) 41 1)) (108 ∷ 0x92 ∷ 0 ∷ []) ∷ row (answer (set (call 3 100) 42 1)) (108 ∷ 0x92 ∷ 0 ∷ [])
+    ∷ row (answer (set (call 3 100) 73 1)) (108 ∷ 0x92 ∷ 0 ∷ []) ∷ row (answer (set (call 3 100) 74 1)) (108 ∷ 0x92 ∷ 0 ∷ [])
     -- "capacity is signed"
     ∷ row (away (signed 0x7fff_ffff)) (0 ∷ 0x7fff_ffff ∷ []) ∷ row (away (signed 0x8000_0000)) (1 ∷ 0x7fff_ffff ∷ [])
     ∷ row (away (signed 0xffff_ffff)) (1 ∷ 0 ∷ [])
@@ -130,7 +147,7 @@ table =
     ∷ []
 
 pub limits : given table ≡ said table
-unfolding isqrt pattern rootOf flipOf _&_ _or_ all firstBroken h1 brokenRule refusalOf collideOf answerBytes signed numbersOf linksOf numbersTaken hexDigit
-    digitValueOf digitOf hexAt hexLine byteOf hexOf callOf rootAnswer flippedAnswer flipAnswer callAnswer frameAnswer answeredOf lineAnswer told toldLast
-    Ieee.size Ieee.ofBits toBits Ieee.lt Ieee.le Ieee.neg Ieee.sub Ieee.div Ieee.add Ieee.mul Fields.table
+unfolding knownUnit isqrt pattern rootOf flipOf _&_ _or_ all firstBroken h1 brokenRule refusalOf collideOf answerBytes signed numbersOf linksOf numbersTaken
+    hexDigit digitValueOf digitOf hexAt hexLine byteOf hexOf callOf rootAnswer flippedAnswer flipAnswer callAnswer frameAnswer answeredOf lineAnswer told
+    toldLast Ieee.size Ieee.ofBits toBits Ieee.lt Ieee.le Ieee.neg Ieee.sub Ieee.div Ieee.add Ieee.mul Fields.table
 limits = refl

@@ -4,19 +4,21 @@ use mathlib.Core.Bool.{Bool}
 use mathlib.Core.List.{List, [], _∷_, map}
 use Prim.Native.Nat.{ℕ}
 use lib.ListN.{length, set, replicate}
-use lib.Ieee.{toBits}
+use lib.Ieee.{Float, toBits}
 use lib.Ieee as Ieee
 use Rattle.bounds.specs.LowBits.{indexOf}
 use Rattle.vector.specs.Rounded.{float, _⊗_, _⊘_}
+use Rattle.vector.specs.declared.Vec3.{Vec3}
 use Rattle.vector.specs.declared.Plane.{Plane}
 use Rattle.vector.specs.declared.Aabb.{Aabb}
 use Rattle.vector.specs.declared.Transform.{Transform}
-use Rattle.manifold.specs.Limits.{slop, speculative, huge}
+use Rattle.units.specs.Units.{knownUnit, unitsPerMeter}
+use Rattle.units.specs.Limits.{slop, speculative, huge, coordinateLimit, offsetLimit, edgeLimit}
 use Rattle.manifold.specs.Records.{emptyContact, emptyPolygon}
 use Rattle.hull_links.specs.Tests.{_&_, _or_, implies, all}
 use Rattle.hull_links.specs.Walks.{has, until, ring}
 use Rattle.hull_links.specs.Rules.{h1, vertexInRange, edgeInRange, faceInRange, h2, twinsAt, h3, ringHolds, ringRight}
-use Rattle.hull_limits.specs.Measures.{inside, small, moderate, nearOne, apart, inBox, planeRight, endsApart}
+use Rattle.hull_limits.specs.Measures.{inside, withinLimit, nearOne, apart, inBox, planeRight, endsApart}
 use Rattle.hull_limits.specs.Transform.{transformRight}
 use Rattle.hull.specs.Rule8.{finiteAt, smallAt, vertexInBox, planeRightAt, edgeLong, h8}
 use Rattle.hull.specs.Numbers.{boxOf, vertexAt, planeAt}
@@ -26,6 +28,25 @@ use Rattle.computed.proofs.Shapes.{tetrahedron}
 -- H1 of sizes, with so many numbers and so many links
 abbrev fits : (v h f numbers links : ℕ) → Bool
 fits v h f numbers links = h1 (sizes v h f) (replicate numbers (float 0)) (replicate links 0)
+
+-- the limits in metres: of a coordinate, of an offset, of a plane; of two coordinates, and of the ends of an edge; of a transform
+abbrev small : Float → Bool
+small x = withinLimit (coordinateLimit 1) x
+
+abbrev moderate : Float → Bool
+moderate x = withinLimit (offsetLimit 1) x
+
+abbrev planeFits : Plane → Bool
+planeFits p = planeRight (offsetLimit 1) p
+
+abbrev split : Float → Float → Bool
+split a b = apart (edgeLimit 1) a b
+
+abbrev endsSplit : Vec3 → Vec3 → Bool
+endsSplit a b = endsApart (edgeLimit 1) a b
+
+abbrev placed : Transform → Bool
+placed t = transformRight 1 t
 
 -- the tetrahedron's links with one changed
 abbrev relinked : ℕ → ℕ → List ℕ
@@ -74,13 +95,13 @@ by x y z s = record { p = vec 0 0 0; q = record { v = vec x y z; s = float s } }
 abbrev table : List Row
 table =
     -- "Slop is binary32 0.005 (3ba3d70a), speculative distance four times that (3ca3d70a), starting support value 100000 (47c35000)": 5 / 1000, rounded
-    is (bits slop) 0x3ba3_d70a
+    is (bits (slop 1)) 0x3ba3_d70a
     ∷ is (bits (float 0x40a0_0000 ⊘ float 0x447a_0000)) 0x3ba3_d70a
-    ∷ is (bits speculative) 0x3ca3_d70a
-    ∷ is (bits (float 0x4080_0000 ⊗ slop)) 0x3ca3_d70a
-    ∷ is (bits huge) 0x47c3_5000
+    ∷ is (bits (speculative 1)) 0x3ca3_d70a
+    ∷ is (bits (float 0x4080_0000 ⊗ slop 1)) 0x3ca3_d70a
+    ∷ is (bits (huge 1)) 0x47c3_5000
     -- "Seven low bits of 47c35000 are 0"
-    ∷ is (indexOf huge) 0
+    ∷ is (indexOf (huge 1)) 0
     -- "A contact has 0 to 4 points; a clip buffer has 64 places."
     ∷ is (length (emptyContact .points)) 4
     ∷ is (length (emptyPolygon .vertices)) 64
@@ -124,25 +145,25 @@ table =
     -- "Offsets within 8192."
     ∷ yes (moderate (float 0x4600_0000)) ∷ no (moderate (float 0x4600_0001)) ∷ yes (moderate (float 0xc600_0000)) ∷ no (moderate (float 0xc600_0001))
     ∷ no (moderate (float 0x7f80_0000)) ∷ no (moderate (float 0xff80_0000)) ∷ no (moderate (float 0x7fc0_0000))
-    ∷ yes (planeRight (level 0x4600_0000)) ∷ no (planeRight (level 0x4600_0001)) ∷ yes (planeRight (level 0xc600_0000))
-    ∷ no (planeRight (level 0xc600_0001))
+    ∷ yes (planeFits (level 0x4600_0000)) ∷ no (planeFits (level 0x4600_0001)) ∷ yes (planeFits (level 0xc600_0000))
+    ∷ no (planeFits (level 0xc600_0001))
     -- "The sum of squares of each normal is 0.99 to 1.01. .. compared with the binary32 numbers nearest 0.99 and 1.01.": 99 / 100 and 101 / 100, rounded
     ∷ is (bits (float 0x42c6_0000 ⊘ float 0x42c8_0000)) 0x3f7d_70a4 ∷ yes (nearOne (float 0x3f7d_70a4)) ∷ no (nearOne (float 0x3f7d_70a3))
     ∷ is (bits (float 0x42ca_0000 ⊘ float 0x42c8_0000)) 0x3f81_47ae ∷ yes (nearOne (float 0x3f81_47ae)) ∷ no (nearOne (float 0x3f81_47af))
     ∷ no (nearOne (float 0x7f80_0000)) ∷ no (nearOne (float 0x7fc0_0000))
     -- "Sums of squares here and below are rounded at each operation, left to right in stored order": every other order, and a sum rounded later, turns these
-    ∷ yes (planeRight (through 0x3f48_d653 0x3efb_0dfb 0x3ebb_7cf7)) ∷ no (planeRight (through 0x3f4a_0f70 0x3ef1_ef07 0x3ec2_1b29))
-    ∷ yes (planeRight (through 0x3f1d_6601 0x3eb9_c0de 0x3f35_1538)) ∷ no (planeRight (through 0x3f2d_f785 0x3ee1_52a1 0x3f18_6d93))
-    ∷ no (planeRight (through 0 0 0))
+    ∷ yes (planeFits (through 0x3f48_d653 0x3efb_0dfb 0x3ebb_7cf7)) ∷ no (planeFits (through 0x3f4a_0f70 0x3ef1_ef07 0x3ec2_1b29))
+    ∷ yes (planeFits (through 0x3f1d_6601 0x3eb9_c0de 0x3f35_1538)) ∷ no (planeFits (through 0x3f2d_f785 0x3ee1_52a1 0x3f18_6d93))
+    ∷ no (planeFits (through 0 0 0))
     -- "For every edge some coordinate's rounded difference between its ends is 1/1024 or more either way."
-    ∷ yes (apart (float 0) (float 0x3a80_0000)) ∷ no (apart (float 0) (float 0x3a7f_ffff))
-    ∷ yes (apart (float 0) (float 0xba80_0000)) ∷ no (apart (float 0) (float 0xba7f_ffff))
-    ∷ yes (apart (float 0x3a80_0000) (float 0)) ∷ no (apart (float 0x3a7f_ffff) (float 0))
+    ∷ yes (split (float 0) (float 0x3a80_0000)) ∷ no (split (float 0) (float 0x3a7f_ffff))
+    ∷ yes (split (float 0) (float 0xba80_0000)) ∷ no (split (float 0) (float 0xba7f_ffff))
+    ∷ yes (split (float 0x3a80_0000) (float 0)) ∷ no (split (float 0x3a7f_ffff) (float 0))
     -- a difference of 1/1024 less 2^-35, which rounds to 1/1024, either way
-    ∷ yes (apart (float 0xae00_0000) (float 0x3a7f_ffff)) ∷ yes (apart (float 0x2e00_0000) (float 0xba7f_ffff))
-    ∷ yes (endsApart (vec 0 0 0) (vec 0x3a80_0000 0 0)) ∷ yes (endsApart (vec 0 0 0) (vec 0 0x3a80_0000 0))
-    ∷ yes (endsApart (vec 0 0 0) (vec 0 0 0x3a80_0000))
-    ∷ no (endsApart (vec 0 0 0) (vec 0x3a7f_ffff 0x3a7f_ffff 0x3a7f_ffff))
+    ∷ yes (split (float 0xae00_0000) (float 0x3a7f_ffff)) ∷ yes (split (float 0x2e00_0000) (float 0xba7f_ffff))
+    ∷ yes (endsSplit (vec 0 0 0) (vec 0x3a80_0000 0 0)) ∷ yes (endsSplit (vec 0 0 0) (vec 0 0x3a80_0000 0))
+    ∷ yes (endsSplit (vec 0 0 0) (vec 0 0 0x3a80_0000))
+    ∷ no (endsSplit (vec 0 0 0) (vec 0x3a7f_ffff 0x3a7f_ffff 0x3a7f_ffff))
     -- the rule of a whole hull: the box, the last vertex, the first and the last lane of padding, the last plane, the last edge
     ∷ yes (measured 6 0)
     ∷ yes (measured 0 0xc580_0000) ∷ no (measured 0 0xc580_0001) ∷ yes (measured 5 0x4580_0000) ∷ no (measured 5 0x4580_0001)
@@ -151,23 +172,24 @@ table =
     ∷ yes (measured 45 0x4600_0000) ∷ no (measured 45 0x4600_0001) ∷ yes (measured 7 0x3a80_0000) ∷ no (measured 7 0x3a7f_ffff)
     ∷ no (rejoined 51 0)
     -- "A transform is accepted when all is finite, its position is within 4096 on each axis"
-    ∷ yes (transformRight (at 0x4580_0000 0xc580_0000 0x4580_0000)) ∷ yes (transformRight (at 0xc580_0000 0x4580_0000 0xc580_0000))
-    ∷ no (transformRight (at 0x4580_0001 0 0)) ∷ no (transformRight (at 0 0x4580_0001 0)) ∷ no (transformRight (at 0 0 0x4580_0001))
-    ∷ no (transformRight (at 0xc580_0001 0 0)) ∷ no (transformRight (at 0 0xc580_0001 0)) ∷ no (transformRight (at 0 0 0xc580_0001))
-    ∷ no (transformRight (at 0x7fc0_0000 0 0)) ∷ no (transformRight (at 0 0x7fc0_0000 0)) ∷ no (transformRight (at 0 0 0x7fc0_0000))
-    ∷ no (transformRight (by 0x7fc0_0000 0 0 0x3f80_0000)) ∷ no (transformRight (by 0 0x7fc0_0000 0 0x3f80_0000))
-    ∷ no (transformRight (by 0 0 0x7fc0_0000 0x3f80_0000)) ∷ no (transformRight (by 0 0 0 0x7fc0_0000)) ∷ no (transformRight (by 0 0 0 0x7f80_0000))
+    ∷ yes (placed (at 0x4580_0000 0xc580_0000 0x4580_0000)) ∷ yes (placed (at 0xc580_0000 0x4580_0000 0xc580_0000))
+    ∷ no (placed (at 0x4580_0001 0 0)) ∷ no (placed (at 0 0x4580_0001 0)) ∷ no (placed (at 0 0 0x4580_0001))
+    ∷ no (placed (at 0xc580_0001 0 0)) ∷ no (placed (at 0 0xc580_0001 0)) ∷ no (placed (at 0 0 0xc580_0001))
+    ∷ no (placed (at 0x7fc0_0000 0 0)) ∷ no (placed (at 0 0x7fc0_0000 0)) ∷ no (placed (at 0 0 0x7fc0_0000))
+    ∷ no (placed (by 0x7fc0_0000 0 0 0x3f80_0000)) ∷ no (placed (by 0 0x7fc0_0000 0 0x3f80_0000))
+    ∷ no (placed (by 0 0 0x7fc0_0000 0x3f80_0000)) ∷ no (placed (by 0 0 0 0x7fc0_0000)) ∷ no (placed (by 0 0 0 0x7f80_0000))
     -- "and the squares of its quaternion sum to 0.99 to 1.01. Ends count as inside in all of these.": each alone
-    ∷ yes (transformRight (by 0 0 0 0x3f7e_b77f)) ∷ no (transformRight (by 0 0 0 0x3f7e_b77e)) ∷ yes (transformRight (by 0x3f7e_b77f 0 0 0))
-    ∷ no (transformRight (by 0x3f7e_b77e 0 0 0)) ∷ yes (transformRight (by 0 0x3f7e_b77f 0 0)) ∷ yes (transformRight (by 0 0 0x3f7e_b77f 0))
-    ∷ yes (transformRight (by 0 0 0 0x3f80_a36e)) ∷ no (transformRight (by 0 0 0 0x3f80_a36f))
+    ∷ yes (placed (by 0 0 0 0x3f7e_b77f)) ∷ no (placed (by 0 0 0 0x3f7e_b77e)) ∷ yes (placed (by 0x3f7e_b77f 0 0 0))
+    ∷ no (placed (by 0x3f7e_b77e 0 0 0)) ∷ yes (placed (by 0 0x3f7e_b77f 0 0)) ∷ yes (placed (by 0 0 0x3f7e_b77f 0))
+    ∷ yes (placed (by 0 0 0 0x3f80_a36e)) ∷ no (placed (by 0 0 0 0x3f80_a36f))
     -- left to right in stored order: every other order, and a sum rounded later, turns these
-    ∷ yes (transformRight (by 0x3dd5_4751 0x3ebb_6396 0x3e94_a9d7 0x3f5f_4e99)) ∷ no (transformRight (by 0x3f15_02f4 0x3e31_81eb 0x3ea4_5b9e 0x3f38_43ca))
-    ∷ yes (transformRight (by 0x3df5_e1c7 0x3f06_8bcf 0x3ea8_906c 0x3f48_19f7)) ∷ no (transformRight (by 0x3ebb_142c 0x3eec_13a0 0x3e57_3357 0x3f49_879e))
+    ∷ yes (placed (by 0x3dd5_4751 0x3ebb_6396 0x3e94_a9d7 0x3f5f_4e99)) ∷ no (placed (by 0x3f15_02f4 0x3e31_81eb 0x3ea4_5b9e 0x3f38_43ca))
+    ∷ yes (placed (by 0x3df5_e1c7 0x3f06_8bcf 0x3ea8_906c 0x3f48_19f7)) ∷ no (placed (by 0x3ebb_142c 0x3eec_13a0 0x3e57_3357 0x3f49_879e))
     ∷ []
 
 pub limits : given table ≡ said table
-unfolding _&_ _or_ implies all has until ring h1 vertexInRange edgeInRange faceInRange h2 twinsAt h3 ringHolds ringRight inside small moderate nearOne
-    apart inBox planeRight endsApart finiteAt smallAt vertexInBox planeRightAt edgeLong h8 boxOf vertexAt planeAt transformRight indexOf Ieee.size
+unfolding knownUnit unitsPerMeter slop speculative huge coordinateLimit offsetLimit edgeLimit _&_ _or_ implies all has until ring h1
+    vertexInRange edgeInRange faceInRange h2 twinsAt h3 ringHolds ringRight inside withinLimit nearOne apart
+    inBox planeRight endsApart finiteAt smallAt vertexInBox planeRightAt edgeLong h8 boxOf vertexAt planeAt transformRight indexOf Ieee.size
     Ieee.ofBits toBits Ieee.lt Ieee.le Ieee.neg Ieee.sub Ieee.div Ieee.add Ieee.mul
 limits = refl

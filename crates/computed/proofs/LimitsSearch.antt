@@ -7,6 +7,8 @@ use lib.ListN.{getD, replicate}
 use lib.Ieee.{Float, nan, toBits}
 use lib.Ieee as Ieee
 use Rattle.bounds.specs.LowBits.{patternOf, embedOf, indexOf}
+use Rattle.units.specs.Units.{unitsPerMeter}
+use Rattle.units.specs.Limits.{slop, speculative, huge}
 use Rattle.vector.specs.declared.Vec3.{Vec3}
 use Rattle.vector.specs.Rounded.{float}
 use Rattle.vector.specs.Scalar.{maxOf}
@@ -35,23 +37,23 @@ ones = vec 0x3f80_0000 0x3f80_0000 0x3f80_0000
 abbrev along-x : Vec3
 along-x = vec 0x3f80_0000 0 0
 
--- a new best at this separation, with numbers 7 and 9, after one at 2^-7, below speculative, with numbers 3 and 5
+-- in metres: a new best at this separation, with numbers 7 and 9, after one at 2^-7, below speculative, with numbers 3 and 5
 abbrev first : Lead
-first = betterOf none (float 0x3c00_0000) 3 5 noneOf
+first = betterOf 1 none (float 0x3c00_0000) 3 5 noneOf
 
 abbrev second : ℕ → Lead
-second separation = betterOf none (float separation) 7 9 first
+second separation = betterOf 1 none (float separation) 7 9 first
 
 -- the first of all, at this separation
 abbrev alone : ℕ → Lead
-alone separation = betterOf none (float separation) 7 9 noneOf
+alone separation = betterOf 1 none (float separation) 7 9 noneOf
 
 -- separations speculative, one bit more, and 1, one after the other
 abbrev rising : List Float
 rising = float 0x3ca3_d70a ∷ float 0x3ca3_d70b ∷ float 0x3f80_0000 ∷ []
 
 abbrev searched : Lead
-searched = leadAfter (λ (i : ℕ) (lead : Lead). betterOf none (getD rising i nan) i 0 lead) noneOf 3
+searched = leadAfter (λ (i : ℕ) (lead : Lead). betterOf 1 none (getD rising i nan) i 0 lead) noneOf 3
 
 -- the answer in one number: the type of an axis apart, 0 where faces are found
 abbrev told : Search → ℕ
@@ -106,8 +108,8 @@ table =
     ∷ is (second 0x3c00_0000 .«index_a») 3 ∷ is (second 0x3c00_0001 .«index_a») 7 ∷ is (second 0x3bff_ffff .«index_a») 3
     ∷ is (second 0x7fc0_0000 .«index_a») 3 ∷ is (second 0x3c00_0000 .«index_b») 5 ∷ is (second 0x3c00_0001 .«index_b») 9
     -- "It stops at the first new best strictly above speculative."
-    ∷ no (stopsOf (float 0x3ca3_d709)) ∷ no (stopsOf (float 0x3ca3_d70a)) ∷ yes (stopsOf (float 0x3ca3_d70b))
-    ∷ no (stopsOf (float 0x7fc0_0000)) ∷ yes (stopsOf (float 0x7f80_0000))
+    ∷ no (stopsOf 1 (float 0x3ca3_d709)) ∷ no (stopsOf 1 (float 0x3ca3_d70a)) ∷ yes (stopsOf 1 (float 0x3ca3_d70b))
+    ∷ no (stopsOf 1 (float 0x7fc0_0000)) ∷ yes (stopsOf 1 (float 0x7f80_0000))
     ∷ no (alone 0x3ca3_d70a .apart) ∷ yes (alone 0x3ca3_d70a .found) ∷ yes (alone 0x3ca3_d70b .apart) ∷ yes (second 0x7f7f_ffff .apart)
     ∷ is (searched .«index_a») 1
     -- "an axis apart with its separation": a stop among A's faces, then B's, then the pairs
@@ -147,8 +149,8 @@ table =
     ∷ []
 
 pub limits : given table ≡ said table
-unfolding patternOf embedOf indexOf maxOf dotOf lengthSquaredOf fartherOf farthestOf supportVertexOf embedWOf leastOf leastWOf lesserOf minIndexOf vertexAt
-    stopsOf betterOf leadAfter supportValueOf groupOf splatOf leastLanes supportOf dotRight passesOf parallelOf atLeastEps failsFirst failsLater axisOf
-    apartOf edgeOf foundOf searchAnswerOf Ieee.size Ieee.ofBits toBits Ieee.lt Ieee.le Ieee.neg Ieee.sub Ieee.div Ieee.add
-    Ieee.mul
+unfolding unitsPerMeter slop speculative huge patternOf embedOf indexOf maxOf dotOf lengthSquaredOf fartherOf farthestOf supportVertexOf embedWOf leastOf
+    leastWOf lesserOf minIndexOf vertexAt stopsOf betterOf leadAfter supportValueOf groupOf splatOf leastLanes supportOf dotRight passesOf parallelOf
+    atLeastEps failsFirst failsLater axisOf apartOf edgeOf foundOf searchAnswerOf Ieee.size Ieee.ofBits toBits Ieee.lt Ieee.le Ieee.neg Ieee.sub Ieee.div
+    Ieee.add Ieee.mul
 limits = refl

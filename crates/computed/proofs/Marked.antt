@@ -9,12 +9,13 @@ use Rattle.vector.specs.Rounded.{float}
 use Rattle.vector.specs.declared.Plane.{Plane}
 use Rattle.vector.specs.Arithmetic.{subOf, dotOf, mulAddOf}
 use Rattle.vector.specs.Shape.{planeSeparationOf}
+use Rattle.units.specs.Units.{unitsPerMeter}
+use Rattle.units.specs.Limits.{huge}
 use Rattle.bounds.specs.LowBits.{patternOf, embedOf, indexOf}
 use Rattle.lanes.specs.declared.FloatW.{FloatW}
 use Rattle.lanes.specs.Lanes.{embedWOf, lesserOf, minIndexOf}
 use Rattle.manifold.specs.declared.FeaturePair.{FeaturePair}
 use Rattle.manifold.specs.declared.ClipVertex.{ClipVertex}
-use Rattle.manifold.specs.Limits.{huge}
 use Rattle.manifold.specs.Pairs.{flipOf}
 use Rattle.clip_cut.specs.Cut.{meetingOf, leavingOf, enteringOf, putOutOf, cutFrom, lastOf, cutOf}
 use Rattle.computed.proofs.Rows.{Row, row, is, given, said, bits}
@@ -88,7 +89,7 @@ table =
     ∷ is (minIndexOf (embedWOf (splat 0x3f80_0000) 0)) 0
     ∷ is (minIndexOf (embedWOf (splat 0xbf80_0000) 0)) 3
     -- the seven low bits of the starting support value
-    ∷ is (indexOf huge) 0
+    ∷ is (indexOf (huge 1)) 0
     -- flipped pairs
     ∷ flip-row 0 3 1 9 0 9 1 3
     ∷ flip-row 1 5 1 6 0 6 0 5
@@ -99,6 +100,6 @@ table =
     ∷ []
 
 pub marked : given table ≡ said table
-unfolding rootOf pattern isqrt Ieee.size Ieee.ofBits toBits lt embedWOf patternOf embedOf indexOf lesserOf minIndexOf flipOf Ieee.add Ieee.sub Ieee.mul
-    Ieee.div Ieee.neg Ieee.le subOf dotOf mulAddOf planeSeparationOf meetingOf leavingOf enteringOf putOutOf cutFrom lastOf cutOf
+unfolding unitsPerMeter huge rootOf pattern isqrt Ieee.size Ieee.ofBits toBits lt embedWOf patternOf embedOf indexOf lesserOf minIndexOf flipOf Ieee.add
+    Ieee.sub Ieee.mul Ieee.div Ieee.neg Ieee.le subOf dotOf mulAddOf planeSeparationOf meetingOf leavingOf enteringOf putOutOf cutFrom lastOf cutOf
 marked = refl

@@ -36,9 +36,12 @@ said rows = map (λ (r : Row). r .want) rows
 abbrev pub bits : Float → ℕ
 bits x = toBits binary32 x
 
--- a vector by its bits, and sizes
+-- a vector by its bits; sizes at a unit, and sizes in metres
 abbrev pub vec : ℕ → ℕ → ℕ → Vec3
 vec x y z = record { x = float x; y = float y; z = float z }
 
+abbrev pub sizesAt : (unit v h f : ℕ) → HullSize
+sizesAt unit v h f = record { unit = unit; vertices = v; «half_edges» = h; faces = f }
+
 abbrev pub sizes : ℕ → ℕ → ℕ → HullSize
-sizes v h f = record { vertices = v; «half_edges» = h; faces = f }
+sizes v h f = sizesAt 1 v h f

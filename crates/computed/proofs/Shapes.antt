@@ -4,13 +4,17 @@ use mathlib.Core.List.{List, [], _∷_, _++_}
 use Prim.Native.Nat.{ℕ, zero, suc, _+_}
 use lib.ListN.{replicate, take}
 use Rattle.hull_links.specs.declared.HullSize.{HullSize}
-use Rattle.computed.proofs.Rows.{sizes}
+use Rattle.computed.proofs.Rows.{sizes, sizesAt}
 
 -- a hull as it is lent, each float by its bits
 pub record Sample : Type 0 where
   pub size : HullSize
   pub bits : List ℕ
   pub links : List ℕ
+
+-- the same numbers and links at this unit
+abbrev pub inUnit : ℕ → Sample → Sample
+inUnit unit h = record { size = sizesAt unit (h .size .vertices) (h .size .«half_edges») (h .size .faces); bits = h .bits; links = h .links }
 
 -- the corners (0, 0, 0), (1, 0, 0), (0, 1, 0), (0, 0, 1)
 abbrev pub tetrahedron : Sample

@@ -15,6 +15,8 @@ use Rattle.vector.specs.Shape.{planeSeparationOf}
 use Rattle.vector.specs.Awaited.{arbitraryPerpOf}
 use Rattle.rotation.specs.Rotation.{matrixOf, invRotateOf}
 use Rattle.manifold.specs.declared.FeaturePair.{FeaturePair}
+use Rattle.units.specs.Limits.{speculative}
+use Rattle.units.proofs.Laws.{tolerance-positive}
 use Rattle.manifold.specs.declared.ClipVertex.{ClipVertex}
 use Rattle.manifold.specs.declared.Point.{Point}
 use Rattle.manifold.specs.Records.{zeroVertex, pastVertex, pastPoint}
@@ -133,14 +135,14 @@ module _ (s : HullSize) (n : List Float) (l : List ℕ) (t : HullSize) (m : List
 
     -- nor that of a point, which is an image
     abbrev points : List Point
-    points = pointsOf (picksOn normal all) images
+    points = pointsOf (picksOn (s .unit) normal all) images
 
-    pub points-flip : (i : ℕ) → i < length (pointsOf (picksOn normal all) images)
-        → flipOf (getD (pointsOf (picksOn normal (candidatesOf s n l t m k x f v)) images) i pastPoint .pair) .status ≡ 0
+    pub points-flip : (i : ℕ) → i < length (pointsOf (picksOn (s .unit) normal all) images)
+        → flipOf (getD (pointsOf (picksOn (s .unit) normal (candidatesOf s n l t m k x f v)) images) i pastPoint .pair) .status ≡ 0
     unfolding picksOn imagesOn pointOf
     points-flip i h =
-        let c = chosen (arbitraryPerpOf normal) normal images images refl in
-        let places = placesOf (picksOn normal all) (length images) in
+        let c = chosen (speculative (s .unit)) (tolerance-positive (s .unit)) (arbitraryPerpOf normal) normal images images refl in
+        let places = placesOf (picksOn (s .unit) normal all) (length images) in
         let at : ℕ → Point = λ j. pointOf j (getD images j pastVertex) in
         let long : length points ≡ length places = ap length (c .same) ∙ length-map places at in
         let low : i < length places = omega (arith, long, h) in

@@ -14,6 +14,8 @@ use Rattle.vector.specs.Awaited.{arbitraryPerpOf}
 use Rattle.rotation.specs.Rotation.{matrixOf, mulMvOf, invertOf}
 use Rattle.manifold.specs.declared.ClipVertex.{ClipVertex}
 use Rattle.manifold.specs.declared.Point.{Point}
+use Rattle.units.specs.Limits.{speculative}
+use Rattle.units.proofs.Laws.{tolerance-positive}
 use Rattle.manifold.specs.declared.Contact.{Contact}
 use Rattle.hull_links.specs.declared.HullSize.{HullSize}
 use Rattle.hull.specs.Numbers.{planeAt}
@@ -46,13 +48,16 @@ carry-point : (x : Transform) (j : ℕ) (v : ClipVertex) → carry x (pointOf j 
 unfolding carriedPoint carriedOf pointOf
 carry-point x j v = refl
 
-pub carried-on-b : (x : Transform) (normal : Vec3) (l : List ClipVertex) → carriedContact x (contactOnA normal l) ≡ contactOnB x normal l
+pub carried-on-b : (unit : ℕ) (x : Transform) (normal : Vec3) (l : List ClipVertex)
+    → carriedContact x (contactOnA unit normal l) ≡ contactOnB unit x normal l
 unfolding picksOn contactOnA contactOnB
-carried-on-b x normal l =
+carried-on-b unit x normal l =
+    let far = speculative unit in
+    let positive = tolerance-positive unit in
     let direction = arbitraryPerpOf normal in
     let images = imagesOn normal l in
-    carried-few x normal (pointsOf (firstPicks direction normal images) images) (chosen direction normal images images refl .few)
-    ∙ ap (contactOf (negOf (mulMvOf (matrixOf (x .q)) normal))) (points-map direction normal images (carriedOf x) (carry x) (carry-point x))
+    carried-few x normal (pointsOf (firstPicks far direction normal images) images) (chosen far positive direction normal images images refl .few)
+    ∙ ap (contactOf (negOf (mulMvOf (matrixOf (x .q)) normal))) (points-map far positive direction normal images (carriedOf x) (carry x) (carry-point x))
 
 -- ---- faces of A and of B: the same three tests
 abbrev side : Bool → Bool → Bool → Contact → Float → ℕ → ℕ → ℕ → Built
@@ -99,14 +104,14 @@ module _ (s : HullSize) (n : List Float) (l : List ℕ) (t : HullSize) (m : List
   pub b-apart : r .touching ≡ false → r ≡ faceBOf s n l t m k x f v
   unfolding onFace faceAOf faceBOf
   b-apart h =
-      is ∙ apart-alike x (contactOnA normal all) (leastSeparationOf all) f v (ltb v (s .vertices)) (ltb 64 (length all))
-      (touchingOf (length all) (leastSeparationOf all))
-      (contactOnB x normal all) (ap (λ (z : Built). z .touching) (sym is) ∙ h)
+      is ∙ apart-alike x (contactOnA (t .unit) normal all) (leastSeparationOf all) f v (ltb v (s .vertices)) (ltb 64 (length all))
+      (touchingOf (speculative (t .unit)) (length all) (leastSeparationOf all))
+      (contactOnB (t .unit) x normal all) (ap (λ (z : Built). z .touching) (sym is) ∙ h)
 
   pub b-touching : r .touching ≡ true → swapped x f v r ≡ faceBOf s n l t m k x f v
   unfolding onFace faceAOf faceBOf
   b-touching h =
       ap (swapped x f v) is
-      ∙ touching-alike x (contactOnA normal all) (leastSeparationOf all) f v (ltb v (s .vertices)) (ltb 64 (length all))
-      (touchingOf (length all) (leastSeparationOf all))
-      (contactOnB x normal all) (carried-on-b x normal all) (ap (λ (z : Built). z .touching) (sym is) ∙ h)
+      ∙ touching-alike x (contactOnA (t .unit) normal all) (leastSeparationOf all) f v (ltb v (s .vertices)) (ltb 64 (length all))
+      (touchingOf (speculative (t .unit)) (length all) (leastSeparationOf all))
+      (contactOnB (t .unit) x normal all) (carried-on-b (t .unit) x normal all) (ap (λ (z : Built). z .touching) (sym is) ∙ h)

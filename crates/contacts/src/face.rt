@@ -12,21 +12,23 @@ use collide_outcome::touched;
 use hull_links::HullSize;
 use manifold::Polygon;
 use manifold::SatCache;
+use reduce_scores::images::touching;
+use units::speculative_distance;
 use vector::Transform;
 use vector::Vec3;
 
-// The contact of these candidates of a face, at most 64 of them.
-fn on_face(candidates: Polygon, normal: Vec3, face: u8, vertex: u8) -> Built
+// The contact of these candidates of a face, at most 64 of them, in hulls of this unit.
+fn on_face(candidates: Polygon, normal: Vec3, face: u8, vertex: u8, unit: usize) -> Built
     requires { ⌜ candidates .count ≤ 64 ⌝ }
-    ensures { λ r. ⌜ r ≡ onFace (contactOnA normal (cornersOf candidates)) 2 face vertex (cornersOf candidates) ⌝ }
+    ensures { λ r. ⌜ r ≡ onFace unit (contactOnA unit normal (cornersOf candidates)) 2 face vertex (cornersOf candidates) ⌝ }
 {
     let least = reduce_scores::images::least_separation(candidates);
-    if !reduce_scores::images::touching(candidates.count, least) {
+    if !touching(speculative_distance(unit), candidates.count, least) {
         return missed();
     }
     let points = reduce_scores::images::images(candidates, normal);
     let direction = vector::awaited::arbitrary_perp(normal);
-    let contact = reduce::reduce_manifold_points(points, normal, direction);
+    let contact = reduce::reduce_manifold_points(points, normal, direction, unit);
     touched(contact, least, 2, face, vertex)
 }
 
@@ -68,7 +70,7 @@ pub fn build_face_a_contact(
     }
     let plane = hull::plane_at(numbers_a, size_a, f);
     let candidates = clipped.polygon;
-    on_face(candidates, plane.normal, face, vertex)
+    on_face(candidates, plane.normal, face, vertex, size_a.unit)
 }
 
 // The contact on a face of B, where `vertex` is the vertex of A that is deepest below it.

@@ -13,14 +13,14 @@ use Rattle.frame.specs.Frames.{faultOf, callAnswer}
 use Rattle.frame.proofs.Puts.{call-short, call-whole}
 
 module _ (f : List ℕ) where
-  pub too-short : length f < 47 → faultOf 0x23 ≡ callAnswer f
+  pub too-short : length f < 49 → faultOf 0x23 ≡ callAnswer f
   too-short h = call-short f (λ e. absurd (omega arith))
 
   module _ {a : HullSize} {at : ℕ} (ea : a ≡ hullA f) (eb : at ≡ 41 + hullLength a) where
     begins : at ≡ beginsB f
     begins = eb ∙ ap (λ s. 41 + hullLength s) ea
 
-    pub too-short-b : length f < at + 6 → faultOf 0x23 ≡ callAnswer f
+    pub too-short-b : length f < at + 8 → faultOf 0x23 ≡ callAnswer f
     too-short-b h = let b = begins in call-short f (λ e. absurd (omega arith))
 
     whole : {b : HullSize} → b ≡ sizeAt f at → at + hullLength b ≡ callLength f

@@ -76,12 +76,12 @@ fn call_answer(frame: &[u8], answer: &mut [u8]) -> usize
     requires { ⌜ longestAnswer ≤ length (now answer) ⌝ }
     ensures { λ r. ⌜ Answers (callAnswer (now (frame .entry))) (now (answer .entry)) r (now (answer .exit)) ⌝ }
 {
-    if frame.len() < 47 {
+    if frame.len() < 49 {
         return put_fault(answer, 0x23);
     }
     let size_a = size_at(frame, 41);
     let at = 41 + hull_length(size_a);
-    if frame.len() < at + 6 {
+    if frame.len() < at + 8 {
         return put_fault(answer, 0x23);
     }
     let size_b = size_at(frame, at);

@@ -1,9 +1,9 @@
 -- The call that a frame asks for: sizes beyond H1 are refused whatever the numbers are, so that numbers which no accepted hull has need not be taken.
 -- Assumes nothing.
 use Prim.Native.Nat.{ℕ, _+_, _-_, _<_, _≤_}
-use mathlib.Core.Path.{_≡_, refl, sym, ap, _∙_}
+use mathlib.Core.Path.{_≡_, sym, ap, _∙_}
 use mathlib.Core.Bool.{Bool, true, false, cond}
-use mathlib.Core.List.{List, [], _∷_}
+use mathlib.Core.List.{List}
 use native.Mathlib.Omega.{arith}
 use lib.Dec.{eqb, leb}
 use lib.ListN.{length, take, drop}
@@ -16,14 +16,12 @@ use Rattle.vector.specs.declared.Transform.{Transform}
 use Rattle.manifold.specs.declared.SatCache.{SatCache}
 use Rattle.manifold.specs.Records.{emptyContact}
 use Rattle.hull_links.specs.declared.HullSize.{HullSize}
-use Rattle.hull_links.specs.Tests.{firstBroken}
 use Rattle.hull_links.specs.Links.{linkCount, numberCount}
 use Rattle.hull_links.specs.Rules.{h1}
 use Rattle.hull_links.proofs.Tests.{cases, breaks}
 use Rattle.hull_links.proofs.Facts.{unfit}
-use Rattle.hull_limits.specs.Transform.{transformRight}
 use Rattle.hull.specs.Rule8.{brokenRule}
-use Rattle.collide_refusals.specs.Refusals.{cacheRight, refusalOf}
+use Rattle.collide_refusals.specs.Refusals.{refusalOf}
 use Rattle.collide_outcome.specs.Answers.{accepted, refusedOf}
 use Rattle.collide.specs.Call.{collideOf}
 use Rattle.frame_encode.proofs.Written.{front, wrote-length}
@@ -41,11 +39,6 @@ pub breaks-h1 : (s : HullSize) (n : List Float) (l : List ℕ) → 902 < numberC
 unfolding brokenRule
 breaks-h1 s n l h = ap (λ k. eqb k 0) (sym (breaks 1 (h1 s n l) _ (too-large s n l h)))
 
-first-of-two : (a : Bool) (rest : List Bool) → firstBroken 1 (a ∷ false ∷ rest) ≡ cond a 2 1
-unfolding firstBroken
-first-of-two true rest = refl
-first-of-two false rest = refl
-
 module _ (s : HullSize) (l : List ℕ) (t : HullSize) (k : List ℕ) (x : Transform) (capacity : ℤ) (cache : SatCache) where
   -- a call with this refusal
   refused : (n m : List Float) (number : ℕ) → refusalOf s n l t m k x cache ≡ number → (number ≡ 0 → ⊥)
@@ -59,7 +52,7 @@ module _ (s : HullSize) (l : List ℕ) (t : HullSize) (k : List ℕ) (x : Transf
   unfolding refusalOf
   same-a n n′ m e e′ =
       let one : _≡_ {A = ℕ} 1 0 → ⊥ = λ z. absurd (omega arith) in
-      refused n m 1 (sym (breaks 1 _ _ e)) one ∙ sym (refused n′ m 1 (sym (breaks 1 _ _ e′)) one)
+      refused n m 1 (rw e) one ∙ sym (refused n′ m 1 (rw e′) one)
 
   not-none : (a : Bool) → _≡_ {A = ℕ} (cond a 2 1) 0 → ⊥
   not-none true z = absurd (omega arith)
@@ -70,9 +63,7 @@ module _ (s : HullSize) (l : List ℕ) (t : HullSize) (k : List ℕ) (x : Transf
   unfolding refusalOf
   same-b n m m′ e e′ =
       let ok = eqb (brokenRule s n l) 0 in
-      let later = transformRight x ∷ cacheRight s t cache ∷ [] in
-      refused n m (cond ok 2 1) (ap (λ b. firstBroken 1 (ok ∷ b ∷ later)) e ∙ first-of-two ok later) (not-none ok)
-      ∙ sym (refused n m′ (cond ok 2 1) (ap (λ b. firstBroken 1 (ok ∷ b ∷ later)) e′ ∙ first-of-two ok later) (not-none ok))
+      refused n m (cond ok 2 1) (rw e) (not-none ok) ∙ sym (refused n m′ (cond ok 2 1) (rw e′) (not-none ok))
 
   -- so what is taken of the numbers does as well as all of them
   taken-a : (f : List ℕ) (at : ℕ) (m : List Float) → collideOf s (numbersTaken f at s) l t m k x capacity cache ≡ collideOf s (numbersOf f at s)

@@ -36,13 +36,13 @@ module _ (f : List ℕ) (at : ℕ) (s : HullSize) where
 
   -- the numbers before the links, and the planes behind them
   pub takes-all : {m m1 m2 : List Float} {before behind : ℕ} → numberCount s ≤ 902 → before ≡ planesFrom s → behind ≡ planesAt s at
-      → Wrote m 0 (floatsAt f (at + 6) before) m1 → Wrote m1 before (floatsAt f behind (4 * s .faces)) m2 → Taken f at s m (before + 4 * s .faces) m2
+      → Wrote m 0 (floatsAt f (at + 8) before) m1 → Wrote m1 before (floatsAt f behind (4 * s .faces)) m2 → Taken f at s m (before + 4 * s .faces) m2
   unfolding numbersOf
   takes-all {m} {m1} {m2} {before} {behind} h eb ea first second =
-      let whole : floatsAt f (at + 6) before ++ floatsAt f behind (4 * s .faces) ≡ numbersOf f at s =
-      ap (λ n. floatsAt f (at + 6) n ++ floatsAt f behind (4 * s .faces)) eb
-      ∙ ap (λ p. floatsAt f (at + 6) (planesFrom s) ++ floatsAt f p (4 * s .faces)) ea in
+      let whole : floatsAt f (at + 8) before ++ floatsAt f behind (4 * s .faces) ≡ numbersOf f at s =
+      ap (λ n. floatsAt f (at + 8) n ++ floatsAt f behind (4 * s .faces)) eb
+      ∙ ap (λ p. floatsAt f (at + 8) (planesFrom s) ++ floatsAt f p (4 * s .faces)) ea in
       record {
         count = ap (λ n. n + 4 * s .faces) eb ∙ sym (taken-length h);
-        numbers = wrote-same (then first second (sym (zero-add _ ∙ table-length (λ i. floatAt f (at + 6 + 4 * i)) before))) (whole ∙ sym (taken-all h));
+        numbers = wrote-same (then first second (sym (zero-add _ ∙ table-length (λ i. floatAt f (at + 8 + 4 * i)) before))) (whole ∙ sym (taken-all h));
       }

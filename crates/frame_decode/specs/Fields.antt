@@ -55,9 +55,14 @@ cacheAt f at = record {
   hit = byteAt f (at + 7);
 }
 
--- "V, H, F (2 bytes each)"
+-- "V, H, F (2 bytes each)"; the unit "as two bytes before each hull's V" (document 02, i)
 abbrev pub sizeAt : List ℕ → ℕ → HullSize
-sizeAt f at = record { vertices = number16At f at; «half_edges» = number16At f (at + 2); faces = number16At f (at + 4) }
+sizeAt f at = record {
+  unit = number16At f at;
+  vertices = number16At f (at + 2);
+  «half_edges» = number16At f (at + 4);
+  faces = number16At f (at + 6);
+}
 
 -- g 0, g 1, .., g (n - 1)
 unfoldable pub table : {A : Type 0} → (ℕ → A) → ℕ → List A

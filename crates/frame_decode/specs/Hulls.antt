@@ -1,5 +1,5 @@
--- A hull in a frame: "V, H, F (2 bytes each), box low and high, x, y, z lists, vertex edges, half-edges (next, twin, origin, face, a byte each), face
--- edges, planes". The numbers before the links and the planes behind them make one list, as a hull's numbers are lent. Definitions only.
+-- A hull in a frame: its unit, "V, H, F (2 bytes each), box low and high, x, y, z lists, vertex edges, half-edges (next, twin, origin, face, a byte each),
+-- face edges, planes". The numbers before the links and the planes behind them make one list, as a hull's numbers are lent. Definitions only.
 use Prim.Native.Nat.{ℕ, _+_, _*_, _<_}
 use mathlib.Core.Bool.{cond}
 use mathlib.Core.List.{List, [], _++_}
@@ -14,17 +14,17 @@ use Rattle.frame_decode.specs.Fields.{floatsAt}
 
 -- where the links of the hull that begins at `at` begin, where its planes do, and how long it is "by its V, H, F as sent"
 abbrev pub linksFrom : HullSize → ℕ → ℕ
-linksFrom s at = at + 6 + 4 * planesFrom s
+linksFrom s at = at + 8 + 4 * planesFrom s
 
 abbrev pub planesAt : HullSize → ℕ → ℕ
 planesAt s at = linksFrom s at + linkCount s
 
 abbrev pub hullLength : HullSize → ℕ
-hullLength s = 6 + 4 * planesFrom s + linkCount s + 16 * s .faces
+hullLength s = 8 + 4 * planesFrom s + linkCount s + 16 * s .faces
 
 -- the numbers of the hull that begins at `at`, and its links
 unfoldable pub numbersOf : List ℕ → ℕ → HullSize → List Float
-numbersOf f at s = floatsAt f (at + 6) (planesFrom s) ++ floatsAt f (planesAt s at) (4 * s .faces)
+numbersOf f at s = floatsAt f (at + 8) (planesFrom s) ++ floatsAt f (planesAt s at) (4 * s .faces)
 
 unfoldable pub linksOf : List ℕ → ℕ → HullSize → List ℕ
 linksOf f at s = take (linkCount s) (drop (linksFrom s at) f)

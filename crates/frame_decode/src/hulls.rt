@@ -21,7 +21,7 @@ pub fn hull_length(s: HullSize) -> usize
     requires { ⌜ Sent s ⌝ }
     ensures { λ r. ⌜ r ≡ hullLength s ⌝ }
 {
-    6 + 4 * planes_from(s) + link_count(s) + 16 * s.faces
+    8 + 4 * planes_from(s) + link_count(s) + 16 * s.faces
 }
 
 // Where the links of the hull that begins at `at` begin, and where they end and its planes begin.
@@ -29,7 +29,7 @@ pub fn links_from(s: HullSize, at: usize) -> usize
     requires { ⌜ Sent s × (at + hullLength s ≤ 0x7fff_ffff_ffff_ffff) ⌝ }
     ensures { λ r. ⌜ r ≡ linksFrom s at ⌝ }
 {
-    at + 6 + 4 * planes_from(s)
+    at + 8 + 4 * planes_from(s)
 }
 
 pub fn planes_at(s: HullSize, at: usize) -> usize
@@ -62,7 +62,7 @@ pub fn take_numbers(frame: &[u8], at: usize, s: HullSize, numbers: &mut [f32]) -
     if 902 < before + planes {
         return 0;
     }
-    take_floats(frame, at + 6, before, numbers, 0);
+    take_floats(frame, at + 8, before, numbers, 0);
     let behind = planes_at(s, at);
     take_floats(frame, behind, planes, numbers, before);
     before + planes

@@ -115,13 +115,15 @@ pub fn cache_at(frame: &[u8], at: usize) -> SatCache
 }
 
 pub fn size_at(frame: &[u8], at: usize) -> HullSize
-    requires { ⌜ at + 6 ≤ length (now frame) ⌝ }
+    requires { ⌜ at + 8 ≤ length (now frame) ⌝ }
     ensures { λ r. ⌜ (r ≡ sizeAt (now (frame .entry)) at) × Sent r ⌝ }
 {
-    let vertices = number16_at(frame, at);
-    let half_edges = number16_at(frame, at + 2);
-    let faces = number16_at(frame, at + 4);
+    let unit = number16_at(frame, at);
+    let vertices = number16_at(frame, at + 2);
+    let half_edges = number16_at(frame, at + 4);
+    let faces = number16_at(frame, at + 6);
     HullSize {
+        unit,
         vertices,
         half_edges,
         faces,

@@ -6,44 +6,46 @@ use Prim.Native.Nat.{ℕ, _+_, _*_, _/_, _<_}
 use native.Mathlib.Omega.{arith}
 use lib.ListN.{getD}
 use lib.Ieee.{Float}
-use Rattle.bounds.specs.Bound.{Below}
+use Rattle.bounds.specs.Within.{Within}
 use Rattle.bounds.specs.Squares.{squares3}
-use Rattle.bounds.proofs.Laws.{more}
+use Rattle.units.specs.Limits.{edgeLimit}
 use Rattle.hull_links.specs.declared.HullSize.{HullSize}
 use Rattle.hull_links.specs.Links.{padded, planesFrom, origin}
 use Rattle.hull_links.specs.Rules.{h1, h2, h3, h4, h5, h6, h7, Linked}
 use Rattle.hull_links.proofs.Tests.{and-left, all-at, unbroken}
-use Rattle.hull_links.proofs.Facts.{links-fit, numbers-fit, edge-in, vertex-edge-lt, face-edge-lt, face-edge-face, vertex-edge-origin, twin-even, twin-odd}
+use Rattle.hull_links.proofs.Facts.{unit-known, links-fit, numbers-fit, edge-in, vertex-edge-lt, face-edge-lt, face-edge-face, vertex-edge-origin}
+use Rattle.hull_links.proofs.Facts.{twin-even, twin-odd}
 use Rattle.hull_links.proofs.Rounds.{rounds}
 use Rattle.hull_shell.specs.Shell.{h9}
 use Rattle.hull_shell.proofs.Theorem.{one-shell}
-use Rattle.vector.specs.Bounded.{VecBelow}
+use Rattle.vector.specs.Within.{VecWithin}
 use Rattle.hull.specs.Numbers.{numberAt, boxOf, vertexAt, planeAt}
 use Rattle.hull_limits.specs.Measures.{nearOne, planeRight, endsApart}
 use Rattle.hull.specs.Rule8.{edgeLong, h8, brokenRule}
 use Rattle.hull.specs.Accepted.{Accepted}
-use Rattle.hull.proofs.Laws.{Passed, passed, coordinate-below, plane-passed, plane-normal, plane-offset}
+use Rattle.hull.proofs.Laws.{Passed, passed, coordinates-within, plane-passed, plane-normal, plane-offset}
 
 -- what bounds the numbers before the planes bounds every vertex, the padding and the box
-module _ (s : HullSize) (n : List Float) (below : (i : ℕ) → i < planesFrom s → Below 22 (numberAt n i)) where
-  numbers-below : (i j k : ℕ) → i < planesFrom s → j < planesFrom s → k < planesFrom s
-      → VecBelow 22 (record { x = numberAt n i; y = numberAt n j; z = numberAt n k })
-  numbers-below i j k a b d = record { on-x = below i a; on-y = below j b; on-z = below k d }
+module _ (s : HullSize) (n : List Float) (within : (i : ℕ) → i < planesFrom s → Within 4000 26 (numberAt n i)) where
+  numbers-within : (i j k : ℕ) → i < planesFrom s → j < planesFrom s → k < planesFrom s
+      → VecWithin 4000 26 (record { x = numberAt n i; y = numberAt n j; z = numberAt n k })
+  numbers-within i j k a b d = record { on-x = within i a; on-y = within j b; on-z = within k d }
 
-  pub vertex-below : (v : ℕ) → v < padded s → VecBelow 22 (vertexAt s n v)
+  vertex-within : (v : ℕ) → v < padded s → VecWithin 4000 26 (vertexAt s n v)
   unfolding vertexAt
-  vertex-below v h = numbers-below _ _ _ (omega arith) (omega arith) (omega arith)
+  vertex-within v h = numbers-within _ _ _ (omega arith) (omega arith) (omega arith)
 
-  pub box-below : VecBelow 22 (boxOf n .lower) × VecBelow 22 (boxOf n .upper)
+  box-within : VecWithin 4000 26 (boxOf n .lower) × VecWithin 4000 26 (boxOf n .upper)
   unfolding boxOf
-  box-below = (numbers-below 0 1 2 (omega arith) (omega arith) (omega arith), numbers-below 3 4 5 (omega arith) (omega arith) (omega arith))
+  box-within = (numbers-within 0 1 2 (omega arith) (omega arith) (omega arith), numbers-within 3 4 5 (omega arith) (omega arith) (omega arith))
 
 module _ (s : HullSize) (n : List Float) (l : List ℕ) (p : Passed s n l) where
   normal-unit : (f : ℕ) → f < s .faces → nearOne (squares3 (planeAt s n f .normal .x) (planeAt s n f .normal .y) (planeAt s n f .normal .z)) ≡ true
   unfolding planeRight
   normal-unit f h = and-left _ _ (plane-passed s n l p f h)
 
-  edge-long : (k : ℕ) → k < s .«half_edges» / 2 → endsApart (vertexAt s n (origin s l (2 * k))) (vertexAt s n (origin s l (2 * k + 1))) ≡ true
+  edge-long : (k : ℕ) → k < s .«half_edges» / 2
+      → endsApart (edgeLimit (s .unit)) (vertexAt s n (origin s l (2 * k))) (vertexAt s n (origin s l (2 * k + 1))) ≡ true
   unfolding edgeLong
   edge-long k h = all-at (edgeLong s n l) _ (p .edged) k h
 
@@ -61,8 +63,9 @@ accepted s n l q =
     let r = rules-hold s n l q in
     let ok : Linked s l = record { fits = links-fit s n l (r 0); r2 = r 1; r3 = r 2; r4 = r 3; r5 = r 4 } in
     let p = numbers-passed s n l q in
-    let below : (i : ℕ) → i < planesFrom s → Below 22 (numberAt n i) = λ i h. more 22 tt (coordinate-below s n l p i h) in
+    let within = coordinates-within s n l p in
     record {
+      unit-known = unit-known s n l (r 0);
       links-fit = links-fit s n l (r 0);
       numbers-fit = numbers-fit s n l (r 0);
       next-in = λ e h. edge-in s l (r 1) e h .next-in;
@@ -77,11 +80,11 @@ accepted s n l q =
       face-edge-starts = face-edge-face s l (r 5);
       rounds = rounds s l ok (r 5) (r 6);
       one-shell = one-shell s l (ok .fits) (r 1) (r 8);
-      vertices-below = vertex-below s n below;
-      lower-below = box-below s n below .0;
-      upper-below = box-below s n below .1;
-      normals-below = λ f h. plane-normal _ (plane-passed s n l p f h);
+      vertices-within = vertex-within s n within;
+      lower-within = box-within s n within .0;
+      upper-within = box-within s n within .1;
+      normals-below = λ f h. plane-normal s _ (plane-passed s n l p f h);
       normals-unit = normal-unit s n l p;
-      offsets-below = λ f h. more 23 tt (plane-offset _ (plane-passed s n l p f h));
+      offsets-below = λ f h. plane-offset s _ (plane-passed s n l p f h);
       edges-long = edge-long s n l p;
     }

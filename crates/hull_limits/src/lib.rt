@@ -1,9 +1,9 @@
-// The limits of H8, on one number, point or plane at a time: tests without a branch, so that passes over lists of numbers go four at a time. What
-// each says is in specs/Measures.antt.
+// The tests of H8 against a limit, on one number, point or plane at a time: without a branch, so that passes over lists of numbers go four at a time.
+// What each says is in specs/Measures.antt. Limits go by the unit, so whoever goes over a list works them out once.
 pub mod transform;
 
 ghost use mathlib.Core.Path.{_≡_};
-ghost use Rattle.hull_limits.specs.Measures.{inside, small, moderate, nearOne, apart, inBox, planeRight, endsApart};
+ghost use Rattle.hull_limits.specs.Measures.{inside, withinLimit, nearOne, apart, inBox, planeRight, endsApart};
 use vector::Aabb;
 use vector::Plane;
 use vector::Vec3;
@@ -15,16 +15,11 @@ pub fn is_inside(lo: f32, hi: f32, x: f32) -> bool
     (lo <= x) & (x <= hi)
 }
 
-pub fn is_small(x: f32) -> bool
-    ensures { λ r. ⌜ r ≡ small x ⌝ }
+// Within the limit, either way.
+pub fn is_within(limit: f32, x: f32) -> bool
+    ensures { λ r. ⌜ r ≡ withinLimit limit x ⌝ }
 {
-    is_inside(-4096.0, 4096.0, x)
-}
-
-pub fn is_moderate(x: f32) -> bool
-    ensures { λ r. ⌜ r ≡ moderate x ⌝ }
-{
-    is_inside(-8192.0, 8192.0, x)
+    is_inside(-limit, limit, x)
 }
 
 pub fn is_near_one(x: f32) -> bool
@@ -33,11 +28,12 @@ pub fn is_near_one(x: f32) -> bool
     is_inside(0.99, 1.01, x)
 }
 
-pub fn are_apart(a: f32, b: f32) -> bool
-    ensures { λ r. ⌜ r ≡ apart a b ⌝ }
+// The rounded difference is the limit or more, either way.
+pub fn are_apart(limit: f32, a: f32, b: f32) -> bool
+    ensures { λ r. ⌜ r ≡ apart limit a b ⌝ }
 {
     let d = b - a;
-    (0.0009765625 <= d) | (d <= -0.0009765625)
+    (limit <= d) | (d <= -limit)
 }
 
 pub fn in_box(b: Aabb, v: Vec3) -> bool
@@ -48,22 +44,16 @@ pub fn in_box(b: Aabb, v: Vec3) -> bool
         & is_inside(b.lower.z, b.upper.z, v.z)
 }
 
-pub fn plane_right(p: Plane) -> bool
-    ensures { λ r. ⌜ r ≡ planeRight p ⌝ }
+pub fn plane_right(limit: f32, p: Plane) -> bool
+    ensures { λ r. ⌜ r ≡ planeRight limit p ⌝ }
 {
     let n = p.normal;
-    is_near_one(n.x * n.x + n.y * n.y + n.z * n.z) & is_moderate(p.offset)
+    is_near_one(n.x * n.x + n.y * n.y + n.z * n.z) & is_within(limit, p.offset)
 }
 
-// The ends of an edge are apart along some axis. Most are so along the first, so the others wait.
-pub fn ends_apart(a: Vec3, b: Vec3) -> bool
-    ensures { λ r. ⌜ r ≡ endsApart a b ⌝ }
+// The ends of an edge are apart along some axis. Which one it is cannot be foreseen, so none is asked before another.
+pub fn ends_apart(limit: f32, a: Vec3, b: Vec3) -> bool
+    ensures { λ r. ⌜ r ≡ endsApart limit a b ⌝ }
 {
-    if are_apart(a.x, b.x) {
-        return true;
-    }
-    if are_apart(a.y, b.y) {
-        return true;
-    }
-    are_apart(a.z, b.z)
+    are_apart(limit, a.x, b.x) | are_apart(limit, a.y, b.y) | are_apart(limit, a.z, b.z)
 }

@@ -8,6 +8,7 @@ use lib.Dec.{eqb, ltb}
 use lib.ListN.{length}
 use lib.Ieee.{Float}
 use borrow.Author.Tests.{eqb-true, eqb-false, eq-eqb, ltb-true, ltb-false, lt-ltb, leb-true, le-leb, not-true}
+use Rattle.units.specs.Units.{knownUnit}
 use Rattle.hull_links.specs.declared.HullSize.{HullSize}
 use Rattle.hull_links.specs.Walks.{has, firsts}
 use Rattle.hull_links.specs.Links.{numberCount, next, twin, origin, face, vertexEdge, faceEdge, faceRing, fan, turn, LinksFit, NumbersFit}
@@ -22,7 +23,7 @@ module _ (s : HullSize) (n : List Float) (l : List ℕ) where
   unfolding h1
   links-fit r =
       let a = and-left _ _ r in
-      let v = and-left _ _ (and-left _ _ a) in
+      let v = and-right _ _ (and-left _ _ (and-left _ _ a)) in
       let h = and-right _ _ (and-left _ _ a) in
       let f = and-right _ _ a in
       record {
@@ -42,24 +43,31 @@ module _ (s : HullSize) (n : List Float) (l : List ℕ) where
       let z = links-fit r in
       record { v-low = z .v-low; v-high = z .v-high; f-low = z .f-low; f-high = z .f-high; long = eqb-true _ _ (and-right _ _ (and-right _ _ r)) }
 
-  pub fit : LinksFit s l → NumbersFit s n → h1 s n l ≡ true
+  pub unit-known : h1 s n l ≡ true → knownUnit (s .unit) ≡ true
   unfolding h1
-  fit r w =
+  unit-known r = and-left _ _ (and-left _ _ (and-left _ _ (and-left _ _ r)))
+
+  pub fit : knownUnit (s .unit) ≡ true → LinksFit s l → NumbersFit s n → h1 s n l ≡ true
+  unfolding h1
+  fit k r w =
       and-intro _ _
       (and-intro _ _
-      (and-intro _ _ (and-intro _ _ (le-leb _ _ (r .v-low)) (le-leb _ _ (r .v-high)))
+      (and-intro _ _ (and-intro _ _ k (and-intro _ _ (le-leb _ _ (r .v-low)) (le-leb _ _ (r .v-high))))
       (and-intro _ _ (and-intro _ _ (eq-eqb _ _ (r .h-even)) (le-leb _ _ (r .h-low))) (le-leb _ _ (r .h-high))))
       (and-intro _ _ (le-leb _ _ (r .f-low)) (le-leb _ _ (r .f-high))))
       (and-intro _ _ (eq-eqb _ _ (r .long)) (eq-eqb _ _ (w .long)))
 
-  -- where the links fit, the length of the numbers decides
-  pub fit-last : LinksFit s l → eqb (length n) (numberCount s) ≡ h1 s n l
-  fit-last r =
-      same-test _ _ (λ t. fit r (record { v-low = r .v-low; v-high = r .v-high; f-low = r .f-low; f-high = r .f-high; long = eqb-true _ _ t }))
+  -- where the unit is known and the links fit, the length of the numbers decides
+  pub fit-last : knownUnit (s .unit) ≡ true → LinksFit s l → eqb (length n) (numberCount s) ≡ h1 s n l
+  fit-last k r =
+      same-test _ _ (λ t. fit k r (record { v-low = r .v-low; v-high = r .v-high; f-low = r .f-low; f-high = r .f-high; long = eqb-true _ _ t }))
       (λ t. eq-eqb _ _ (numbers-fit t .long))
 
   pub unfit : (LinksFit s l → NumbersFit s n → ⊥) → h1 s n l ≡ false
   unfit q = cases (h1 s n l) (λ t. absurd (q (links-fit t) (numbers-fit t))) (λ t. t)
+
+  pub no-unit : knownUnit (s .unit) ≡ false → h1 s n l ≡ false
+  no-unit q = cases (h1 s n l) (λ t. absurd (false≢true (sym q ∙ unit-known t))) (λ t. t)
 
 module _ (s : HullSize) (l : List ℕ) where
   abbrev H : ℕ

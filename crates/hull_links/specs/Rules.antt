@@ -6,15 +6,17 @@ use Prim.Native.Nat.{ℕ, _+_, _*_, _/_, _%_}
 use lib.Dec.{eqb, ltb, leb}
 use lib.ListN.{length}
 use lib.Ieee.{Float}
+use Rattle.units.specs.Units.{knownUnit}
 use Rattle.hull_links.specs.declared.HullSize.{HullSize}
 use Rattle.hull_links.specs.Tests.{_&_, implies, all, firstBroken}
 use Rattle.hull_links.specs.Walks.{has, firsts}
 use Rattle.hull_links.specs.Links.{linkCount, numberCount, next, twin, origin, face, vertexEdge, faceEdge, faceRing, fan, LinksFit}
 
--- H1. V 4 to 128, H even and 12 to 256, F 4 to 128, all lists of fitting length.
+-- H1. V 4 to 128, H even and 12 to 256, F 4 to 128, all lists of fitting length. "H1 also for an unknown unit" (document 02, i).
 unfoldable pub h1 : HullSize → List Float → List ℕ → Bool
 h1 s n l =
-    (leb 4 (s .vertices) & leb (s .vertices) 128)
+    knownUnit (s .unit)
+    & (leb 4 (s .vertices) & leb (s .vertices) 128)
     & (eqb (s .«half_edges» % 2) 0 & leb 12 (s .«half_edges») & leb (s .«half_edges») 256)
     & (leb 4 (s .faces) & leb (s .faces) 128)
     & (eqb (length l) (linkCount s) & eqb (length n) (numberCount s))

@@ -5,9 +5,10 @@ ghost use Prim.Native.Nat.{_+_, _*_, _<_};
 ghost use lib.ListN.{length, getD};
 ghost use Rattle.hull_links.specs.Links.{padded, planesFrom, next, twin, origin, face, vertexEdge, faceEdge, LinksFit};
 
-// How many vertices, half-edges and faces a hull has.
+// The length unit of a hull, so many a metre, and how many vertices, half-edges and faces it has.
 #[repr(C)]
 pub struct HullSize {
+    pub unit: usize,
     pub vertices: usize,
     pub half_edges: usize,
     pub faces: usize,

@@ -11,10 +11,13 @@ use hull_links::planes_from;
 use hull_tours::fans_toured;
 use hull_tours::rings_toured;
 
-// H1: the sizes are within their limits, and the lists fit them.
+// H1: the unit is known, the sizes are within their limits, and the lists fit them.
 pub fn sizes_right(numbers: &[f32], links: &[u8], size: HullSize) -> bool
     ensures { λ r. ⌜ r ≡ h1 size (now (numbers .entry)) (now (links .entry)) ⌝ }
 {
+    if !units::is_known(size.unit) {
+        return false;
+    }
     if size.vertices < 4 {
         return false;
     }

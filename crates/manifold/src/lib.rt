@@ -1,8 +1,6 @@
-// The records that contacts are made of, the limits that decide a contact, tags of points, and the way between floats and their bits.
-// From constants.rs and manifold/types.rs; `flip_pair` from clip.rs.
+// The records that contacts are made of, tags of points, and the way between floats and their bits. From manifold/types.rs; `flip_pair` from clip.rs.
 
 pub mod bits;
-pub mod limits;
 pub mod pairs;
 pub mod records;
 

@@ -6,6 +6,8 @@ use native.Mathlib.Nat.{zero-mul, suc-mul}
 use native.Mathlib.Numerals.{add-one}
 use native.Mathlib.Omega.{arith}
 use Rattle.vector.specs.declared.Vec3.{Vec3}
+use Rattle.units.specs.Limits.{speculative}
+use Rattle.units.proofs.Laws.{tolerance-positive}
 use Rattle.manifold.specs.declared.ClipVertex.{ClipVertex}
 use Rattle.manifold.specs.declared.Contact.{Contact}
 use Rattle.reduce_points.specs.Points.{contactOf}
@@ -32,6 +34,8 @@ all-summed k total i n s h l =
     s .sum ∙ ap (λ (x : ℕ). x * k) e
 
 -- a contact has four points at most
-pub four-most : (direction normal : Vec3) (l : List ClipVertex) (c : Contact) → c ≡ contactOf normal (pointsOf (firstPicks direction normal l) l) → c .count ≤ 4
+pub four-most : (unit : ℕ) (direction normal : Vec3) (l : List ClipVertex) (c : Contact)
+    → c ≡ contactOf normal (pointsOf (firstPicks (speculative unit) direction normal l) l) → c .count ≤ 4
 unfolding contactOf
-four-most direction normal l c q = subst (λ (x : Contact). x .count ≤ 4) (sym q) (chosen direction normal l l refl .few)
+four-most unit direction normal l c q =
+    subst (λ (x : Contact). x .count ≤ 4) (sym q) (chosen (speculative unit) (tolerance-positive unit) direction normal l l refl .few)

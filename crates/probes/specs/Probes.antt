@@ -1,16 +1,18 @@
 -- What a probe of several helpers answers: each helper's definition, field by field. Definitions only.
+use Prim.Native.Nat.{ℕ}
 use mathlib.Core.List.{[], _∷_}
 use lib.Ieee.{Float}
 use Rattle.vector.specs.declared.Vec3.{Vec3}
 use Rattle.vector.specs.declared.Plane.{Plane}
 use Rattle.vector.specs.declared.Aabb.{Aabb}
 use Rattle.vector.specs.declared.Transform.{Transform}
-use Rattle.vector.specs.Scalar.{minOf, maxOf, unitsPerMeter}
+use Rattle.vector.specs.Scalar.{minOf, maxOf}
 use Rattle.vector.specs.Arithmetic.{addOf, subOf, negOf, absVecOf, crossOf, mulSvOf, mulAddOf, mulSubOf, lerpOf, normalizeOf, dotOf, lengthSquaredOf}
 use Rattle.rotation.specs.Rotation.{matrixOf, transposeOf, mulMvOf, rotateOf, invRotateOf, transformPointOf, invTransformPointOf, invertOf}
 use Rattle.vector.specs.Shape.{planeSeparationOf, planeOf, centerOf, extentsOf, pointSupportOf}
 use Rattle.vector.specs.Awaited.{arbitraryPerpOf, lineDistanceOf, isWithinSegmentsOf}
-use Rattle.manifold.specs.Limits as limits
+use Rattle.units.specs.Units.{unitsPerMeter}
+use Rattle.units.specs.Limits as limits
 use Rattle.probes.specs.declared.Vectors.{Vectors}
 use Rattle.probes.specs.declared.Rotations.{Rotations}
 use Rattle.probes.specs.declared.Shapes.{Shapes}
@@ -70,5 +72,14 @@ linesOf p1 d1 p2 d2 =
       within = isWithinSegmentsOf line;
     }
 
-abbrev pub limitsOf : Limits
-limitsOf = record { slop = limits.slop; speculative = limits.speculative; huge = limits.huge; units = unitsPerMeter }
+abbrev pub limitsOf : ℕ → Limits
+limitsOf unit =
+    record {
+      slop = limits.slop unit;
+      speculative = limits.speculative unit;
+      huge = limits.huge unit;
+      units = unitsPerMeter unit;
+      coordinate = limits.coordinateLimit unit;
+      offset = limits.offsetLimit unit;
+      edge = limits.edgeLimit unit;
+    }

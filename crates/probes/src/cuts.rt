@@ -2,6 +2,7 @@
 ghost use mathlib.Core.List.{map};
 ghost use mathlib.Core.Path.{_≡_};
 ghost use Prim.Native.Nat.{_*_, _≤_, _<_};
+ghost use Rattle.units.specs.Limits.{speculative};
 ghost use Rattle.manifold.specs.Polygons.{cornersOf, polygonOf};
 ghost use Rattle.hull.specs.Accepted.{Accepted};
 ghost use Rattle.clip_cut.specs.Cut.{cutOf};
@@ -55,39 +56,41 @@ pub extern "C" fn probe_least_separation(candidates: Polygon) -> f32
 }
 
 #[no_mangle]
-pub extern "C" fn probe_touching(count: usize, least: f32) -> bool
-    ensures { λ r. ⌜ r ≡ touchingOf count least ⌝ }
+pub extern "C" fn probe_touching(unit: usize, count: usize, least: f32) -> bool
+    ensures { λ r. ⌜ r ≡ touchingOf (speculative unit) count least ⌝ }
 {
-    reduce_scores::images::touching(count, least)
+    reduce_scores::images::touching(units::speculative_distance(unit), count, least)
 }
 
 #[no_mangle]
 pub extern "C" fn probe_reduce_manifold_points(
+    unit: usize,
     images: Polygon,
     normal: Vec3,
     direction: Vec3,
 ) -> Contact
     requires { ⌜ images .count ≤ 64 ⌝ }
-    ensures { λ r. ⌜ r ≡ contactOf normal (pointsOf (firstPicks direction normal (cornersOf images)) (cornersOf images)) ⌝ }
+    ensures { λ r. ⌜ r ≡ contactOf normal (pointsOf (firstPicks (speculative unit) direction normal (cornersOf images)) (cornersOf images)) ⌝ }
 {
-    reduce::reduce_manifold_points(images, normal, direction)
+    reduce::reduce_manifold_points(images, normal, direction, unit)
 }
 
 // So many reductions of the same images, and how many points they leave together.
 #[no_mangle]
 pub extern "C" fn probe_reduce_rounds(
+    unit: usize,
     images: Polygon,
     normal: Vec3,
     direction: Vec3,
     rounds: usize,
 ) -> usize
     requires { ⌜ (images .count ≤ 64) × (rounds ≤ 65536) ⌝ }
-    ensures { λ r. ⌜ r ≡ rounds * contactOf normal (pointsOf (firstPicks direction normal (cornersOf images)) (cornersOf images)) .count ⌝ }
+    ensures { λ r. ⌜ r ≡ rounds * contactOf normal (pointsOf (firstPicks (speculative unit) direction normal (cornersOf images)) (cornersOf images)) .count ⌝ }
 {
     let mut total = 0;
     let mut i = 0;
     while i < rounds {
-        let contact = reduce::reduce_manifold_points(images, normal, direction);
+        let contact = reduce::reduce_manifold_points(images, normal, direction, unit);
         total += contact.count as usize;
         i += 1;
     }

@@ -77,6 +77,9 @@ pub struct Limits {
     pub speculative: f32,
     pub huge: f32,
     pub units: f32,
+    pub coordinate: f32,
+    pub offset: f32,
+    pub edge: f32,
 }
 
 // The root of the float with these bits, as bits.
@@ -231,21 +234,25 @@ pub extern "C" fn probe_flip_pair(pair: FeaturePair) -> manifold::pairs::Flipped
     manifold::pairs::flip_pair(pair)
 }
 
+// Every limit that goes by the unit.
 #[no_mangle]
-pub extern "C" fn probe_limits() -> Limits
-    ensures { λ r. ⌜ r ≡ limitsOf ⌝ }
+pub extern "C" fn probe_limits(unit: usize) -> Limits
+    ensures { λ r. ⌜ r ≡ limitsOf unit ⌝ }
 {
     Limits {
-        slop: manifold::limits::linear_slop(),
-        speculative: manifold::limits::speculative_distance(),
-        huge: manifold::limits::huge(),
-        units: vector::scalar::get_length_units_per_meter(),
+        slop: units::linear_slop(unit),
+        speculative: units::speculative_distance(unit),
+        huge: units::huge(unit),
+        units: units::get_length_units_per_meter(unit),
+        coordinate: units::coordinate_limit(unit),
+        offset: units::offset_limit(unit),
+        edge: units::edge_limit(unit),
     }
 }
 
 #[no_mangle]
-pub extern "C" fn probe_transform_accepted(t: Transform) -> bool
-    ensures { λ r. ⌜ r ≡ transformRight t ⌝ }
+pub extern "C" fn probe_transform_accepted(unit: usize, t: Transform) -> bool
+    ensures { λ r. ⌜ r ≡ transformRight unit t ⌝ }
 {
-    hull_limits::transform::transform_accepted(t)
+    hull_limits::transform::transform_accepted(unit, t)
 }

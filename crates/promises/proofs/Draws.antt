@@ -23,7 +23,8 @@ use Rattle.manifold.specs.declared.Point.{Point}
 use Rattle.manifold.specs.declared.SatCache.{SatCache}
 use Rattle.manifold.specs.declared.Contact.{Contact}
 use Rattle.manifold.specs.declared.Answer.{Answer}
-use Rattle.manifold.specs.Limits.{slop}
+use Rattle.units.specs.Limits.{slop, speculative}
+use Rattle.units.proofs.Laws.{tolerance-positive}
 use Rattle.manifold.specs.Records.{emptyContact}
 use Rattle.hull_links.specs.declared.HullSize.{HullSize}
 use Rattle.hull_links.proofs.Tests.{cases}
@@ -61,14 +62,14 @@ use Rattle.promises.proofs.Choices.{choice}
 use Rattle.promises.proofs.Statuses.{call-status}
 
 -- ---- the points of a face, by the picks that its own frame's images give, of whatever images are as many
-chosen-on : (normal : Vec3) (candidates images : List ClipVertex) → length images ≡ length candidates
-    → Chosen images (pointsOf (picksOn normal candidates) images) (placesOn normal candidates)
+chosen-on : (unit : ℕ) (normal : Vec3) (candidates images : List ClipVertex) → length images ≡ length candidates
+    → Chosen images (pointsOf (picksOn unit normal candidates) images) (placesOn unit normal candidates)
 unfolding imagesOn picksOn placesOn
-chosen-on normal candidates images e =
+chosen-on unit normal candidates images e =
     let own = map (imageOf normal) candidates in
-    let picks = firstPicks (arbitraryPerpOf normal) normal own in
+    let picks = firstPicks (speculative unit) (arbitraryPerpOf normal) normal own in
     subst (λ (n : ℕ). Chosen images (pointsOf picks images) (placesOf picks n)) e
-    (chosen (arbitraryPerpOf normal) normal own images (e ∙ sym (length-map candidates (imageOf normal))))
+    (chosen (speculative unit) (tolerance-positive unit) (arbitraryPerpOf normal) normal own images (e ∙ sym (length-map candidates (imageOf normal))))
 
 map-twice : (g h : ClipVertex → ClipVertex) (vs : List ClipVertex) → map g (map h vs) ≡ map (λ v. g (h v)) vs
 map-twice g h [] = refl
@@ -112,26 +113,26 @@ module _ (s : HullSize) (n : List Float) (l : List ℕ) (t : HullSize) (m : List
 
   -- ---- the points of a source are chosen from its images
   own-a : (f v : ℕ) → let normal = planeAt s n f .normal in let candidates = candidatesOf s n l t m k x f v in
-      Chosen (imagesFrom s n l t m k x (face-a f v)) (pointsOf (picksOn normal candidates) (imagesOn normal candidates))
+      Chosen (imagesFrom s n l t m k x (face-a f v)) (pointsOf (picksOn (s .unit) normal candidates) (imagesOn normal candidates))
       (placesFrom s n l t m k x (face-a f v))
   unfolding imagesFrom imageFrom candidatesFrom placesFrom imagesOn
   own-a f v =
       let normal = planeAt s n f .normal in
       let candidates = candidatesOf s n l t m k x f v in
-      chosen-on normal candidates (map (imageOf normal) candidates) (length-map candidates (imageOf normal))
+      chosen-on (s .unit) normal candidates (map (imageOf normal) candidates) (length-map candidates (imageOf normal))
 
   -- of face B: its own images, carried
   carried-b : (f v : ℕ) → let normal = planeAt t m f .normal in let candidates = candidatesOf t m k s n l (invertOf x) f v in
-      Chosen (imagesFrom s n l t m k x (face-b f v)) (pointsOf (picksOn normal candidates) (map (carriedOf x) (imagesOn normal candidates)))
+      Chosen (imagesFrom s n l t m k x (face-b f v)) (pointsOf (picksOn (t .unit) normal candidates) (map (carriedOf x) (imagesOn normal candidates)))
       (placesFrom s n l t m k x (face-b f v))
   unfolding imagesFrom imageFrom candidatesFrom placesFrom imagesOn
   carried-b f v =
       let normal = planeAt t m f .normal in
       let candidates = candidatesOf t m k s n l (invertOf x) f v in
       let carried = map (carriedOf x) (map (imageOf normal) candidates) in
-      subst (λ (images : List ClipVertex). Chosen images (pointsOf (picksOn normal candidates) carried) (placesOn normal candidates))
+      subst (λ (images : List ClipVertex). Chosen images (pointsOf (picksOn (t .unit) normal candidates) carried) (placesOn (t .unit) normal candidates))
       (map-twice (carriedOf x) (imageOf normal) candidates)
-      (chosen-on normal candidates carried (length-map (map (imageOf normal) candidates) (carriedOf x) ∙ length-map candidates (imageOf normal)))
+      (chosen-on (t .unit) normal candidates carried (length-map (map (imageOf normal) candidates) (carriedOf x) ∙ length-map candidates (imageOf normal)))
 
   abbrev Taken : Source → List Point → Type 0
   Taken source points = Chosen (imagesFrom s n l t m k x source) points (placesFrom s n l t m k x source)
@@ -148,11 +149,11 @@ module _ (s : HullSize) (n : List Float) (l : List ℕ) (t : HullSize) (m : List
   unfolding contactFrom pointsTaken placesFrom normalFrom contactOf normalOf
   of-none why = refl
 
-  of-face-a : (f v : ℕ) → contactOnA (planeAt s n f .normal) (candidatesOf s n l t m k x f v) ≡ From (face-a f v)
+  of-face-a : (f v : ℕ) → contactOnA (s .unit) (planeAt s n f .normal) (candidatesOf s n l t m k x f v) ≡ From (face-a f v)
   unfolding contactOnA contactFrom pointsTaken normalFrom
   of-face-a f v = ap (contactOf (planeAt s n f .normal)) (own-a f v .same)
 
-  of-face-b : (f v : ℕ) → contactOnB x (planeAt t m f .normal) (candidatesOf t m k s n l (invertOf x) f v) ≡ From (face-b f v)
+  of-face-b : (f v : ℕ) → contactOnB (t .unit) x (planeAt t m f .normal) (candidatesOf t m k s n l (invertOf x) f v) ≡ From (face-b f v)
   unfolding contactOnB contactFrom pointsTaken normalFrom
   of-face-b f v = ap (contactOf (negOf (mulMvOf (matrixOf (x .q)) (planeAt t m f .normal)))) (carried-b f v .same)
 
@@ -212,7 +213,7 @@ module _ (s : HullSize) (n : List Float) (l : List ℕ) (t : HullSize) (m : List
   stand source contact e = ap (λ (c : Contact). c .count) e ∙ length-map (placesFrom s n l t m k x source) _
 
   tries : (built : Built) (source : Source) (e : Axis) → Made built source
-      → triesEdge built e ≡ triedOver s n l t m k x (ifTouching s n l t m k x source) e
+      → triesEdge (s .unit) built e ≡ triedOver s n l t m k x (ifTouching s n l t m k x source) e
   unfolding triesEdge triedOver ifTouching placesFrom
   tries built source e d =
       cases (Touch source)
@@ -276,15 +277,16 @@ module _ (s : HullSize) (n : List Float) (l : List ℕ) (t : HullSize) (m : List
 
   -- the two separations differ by less than slop
   near-same : (cache : SatCache) (built : Built) (source : Source) → Made built source → Touch source ≡ true
-      → nearOf cache (built .cache) ≡ Ieee.lt (absOf (float (cache .separation) ⊖ separationFrom s n l t m k x source)) slop
+      → nearOf (s .unit) cache (built .cache)
+      ≡ Ieee.lt (absOf (float (cache .separation) ⊖ separationFrom s n l t m k x source)) (slop (s .unit))
   unfolding nearOf
-  near-same cache built source d p = ap (λ (z : Float). Ieee.lt (absOf (float (cache .separation) ⊖ z)) slop) (d .separation p)
+  near-same cache built source d p = ap (λ (z : Float). Ieee.lt (absOf (float (cache .separation) ⊖ z)) (slop (s .unit))) (d .separation p)
 
   abbrev After : SatCache → Cached → Source → Type 0
   After cache cached = Answers (afterCached s n l t m k x cache cached)
 
   after-served : (cache : SatCache) (built : Built) (source : Source) → Makes built source
-      → After cache (servedOf cache built) (cond (serves s n l t m k x cache source) source Full)
+      → After cache (servedOf (s .unit) cache built) (cond (serves s n l t m k x cache source) source Full)
   unfolding servedOf serves ifTouching
   after-served cache built source h =
       cases (eqb (built .status) 0)
@@ -297,7 +299,7 @@ module _ (s : HullSize) (n : List Float) (l : List ℕ) (t : HullSize) (m : List
 
   -- ---- the cached axis: apart, or what is built of it
   after-axis : (cache : SatCache) (isApart : Bool) (built : Built) (source : Source) → Makes built source
-      → After cache (cond isApart (hitWith emptyContact) (servedOf cache built)) (cachedSource s n l t m k x cache isApart source)
+      → After cache (cond isApart (hitWith emptyContact) (servedOf (s .unit) cache built)) (cachedSource s n l t m k x cache isApart source)
   unfolding cachedSource
   after-axis cache isApart built source h =
       choice (After cache) isApart _ refl (λ p. answers-hit cache _ _ (of-none apart)) (λ p. after-served cache built source h)

@@ -24,9 +24,9 @@ use Rattle.promises.specs.Sources.{Source, NoCandidates, face-a, face-b,
 use Rattle.promises.specs.OneCall.{triedOver, orPair, searchSource, fullSource, serves, cachedSource, cachedEdges, workSource, sourceOf}
 
 -- "Fewer than 3 left .. not touching"
-touching-some : (count : ℕ) (least : Float) → touchingOf count least ≡ true → 3 ≤ count
+touching-some : (far : Float) (count : ℕ) (least : Float) → touchingOf far count least ≡ true → 3 ≤ count
 unfolding touchingOf
-touching-some count least h =
+touching-some far count least h =
     cases (ltb count 3) (λ few. absurd (false≢true (rw few at h))) (λ some. ltb-false count 3 some)
 
 module _ (s : HullSize) (n : List Float) (l : List ℕ) (t : HullSize) (m : List Float) (k : List ℕ) (x : Transform) where
@@ -36,8 +36,8 @@ module _ (s : HullSize) (n : List Float) (l : List ℕ) (t : HullSize) (m : List
 
   told-touching : (source : Source) → touches s n l t m k x source ≡ true → Told source
   unfolding touches candidatesFrom
-  told-touching (face-a f v) h q = let some = touching-some _ _ h in absurd (omega (arith, some, q))
-  told-touching (face-b f v) h q = let some = touching-some _ _ h in absurd (omega (arith, some, q))
+  told-touching (face-a f v) h q = let some = touching-some _ _ _ h in absurd (omega (arith, some, q))
+  told-touching (face-b f v) h q = let some = touching-some _ _ _ h in absurd (omega (arith, some, q))
   told-touching (edges normal a b) h q = absurd (omega (arith, q))
   told-touching (none why) h q = record { why = why; is = refl }
 

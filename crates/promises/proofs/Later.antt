@@ -12,7 +12,7 @@ use Rattle.bounds.proofs.Laws.{picked}
 use Rattle.vector.specs.declared.Transform.{Transform}
 use Rattle.manifold.specs.declared.ClipVertex.{ClipVertex}
 use Rattle.manifold.specs.declared.SatCache.{SatCache}
-use Rattle.manifold.specs.Limits.{speculative}
+use Rattle.units.specs.Limits.{speculative}
 use Rattle.hull_links.specs.declared.HullSize.{HullSize}
 use Rattle.hull_links.specs.Tests.{firstBroken}
 use Rattle.hull_links.proofs.Tests.{cases}
@@ -63,8 +63,8 @@ module _ (P : ℕ → Type 0) (at-0 : P 0) (at-6 : P 6) where
     pub cached-has : (cache : SatCache) → P (cachedMeets s n l t m k x cache)
     unfolding cachedMeets
     cached-has cache =
-        picked P (eqb (cache .kind) 2) (picked P (Ieee.le speculative (separationFromA s n t m x (cache .«index_a»))) at-0 (cut-has _))
-        (picked P (eqb (cache .kind) 3) (picked P (Ieee.le speculative (separationFromB s n t m x (cache .«index_b»))) at-0 (cut-has _)) at-0)
+        picked P (eqb (cache .kind) 2) (picked P (Ieee.le (speculative (s .unit)) (separationFromA s n t m x (cache .«index_a»))) at-0 (cut-has _))
+        (picked P (eqb (cache .kind) 3) (picked P (Ieee.le (speculative (s .unit)) (separationFromB s n t m x (cache .«index_b»))) at-0 (cut-has _)) at-0)
 
     module _ (at-5 : P 5) where
       face-has : (other : HullSize) (v : ℕ) (candidates : List ClipVertex) → P (faceMeets other v candidates)

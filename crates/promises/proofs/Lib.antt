@@ -12,3 +12,4 @@ pub mod Shells
 pub mod Separations
 pub mod Retired
 pub mod Incident
+pub mod Units

@@ -1,7 +1,7 @@
 -- The mark of each part of the call; and of a cache that names no axis, that it is answered as one of type 0, mark aside. Assumes nothing.
 use Prim.Native.Nat.{ℕ, _≤_}
-use mathlib.Core.Bool.{Bool, false}
-use mathlib.Core.List.{List, [], _∷_}
+use mathlib.Core.Bool.{false}
+use mathlib.Core.List.{List}
 use mathlib.Core.Path.{_≡_, refl, sym, ap, subst, _∙_}
 use native.Mathlib.Omega.{arith}
 use lib.Dec.{eqb, leb}
@@ -14,10 +14,7 @@ use Rattle.vector.specs.declared.Transform.{Transform}
 use Rattle.manifold.specs.declared.SatCache.{SatCache}
 use Rattle.manifold.specs.declared.Answer.{Answer}
 use Rattle.hull_links.specs.declared.HullSize.{HullSize}
-use Rattle.hull_links.specs.Tests.{firstBroken}
 use Rattle.hull_links.proofs.Tests.{cases}
-use Rattle.hull_limits.specs.Transform.{transformRight}
-use Rattle.hull.specs.Rule8.{brokenRule}
 use Rattle.collide_refusals.specs.Refusals.{refusalOf}
 use Rattle.collide_refusals.proofs.Cases.{names-none}
 use Rattle.collide_outcome.specs.declared.Built.{Built}
@@ -94,9 +91,10 @@ module _ (s : HullSize) (n : List Float) (l : List ℕ) (t : HullSize) (m : List
   same-refusal : refusalOf s n l t m k x was ≡ refusalOf s n l t m k x zero
   unfolding refusalOf
   same-refusal =
-      ap (λ (z : Bool). firstBroken 1 (eqb (brokenRule s n l) 0 ∷ eqb (brokenRule t m k) 0 ∷ transformRight x ∷ z ∷ []))
-      (sym (names-none s t was (no-axis .not-2) (no-axis .not-3) (no-axis .not-4))
-      ∙ names-none s t zero (λ q. absurd (omega (arith, q))) (λ q. absurd (omega (arith, q))) (λ q. absurd (omega (arith, q))))
+      rw (
+        sym (names-none s t was (no-axis .not-2) (no-axis .not-3) (no-axis .not-4)),
+        sym (names-none s t zero (λ q. absurd (omega (arith, q))) (λ q. absurd (omega (arith, q))) (λ q. absurd (omega (arith, q)))),
+      )
 
   module _ (wide : ltZ capacity (pos 4) ≡ false) (right : refusalOf s n l t m k x was ≡ 0) where
     worked-was : answerOf was (fullOf s n l t m k x) ≡ call was

@@ -21,7 +21,7 @@ use Rattle.manifold.specs.declared.ClipVertex.{ClipVertex}
 use Rattle.manifold.specs.declared.SatCache.{SatCache}
 use Rattle.manifold.specs.declared.Contact.{Contact}
 use Rattle.manifold.specs.declared.Answer.{Answer}
-use Rattle.manifold.specs.Limits.{speculative}
+use Rattle.units.specs.Limits.{speculative}
 use Rattle.hull_links.specs.declared.HullSize.{HullSize}
 use Rattle.hull_links.proofs.Tests.{cases}
 use Rattle.hull.specs.Numbers.{supportAt}
@@ -73,29 +73,30 @@ unfolding answerOf
 answer-status cache built =
     choice OfAnswer (eqb (built .status) 0) _ refl (λ h. refl) (λ h. refl) ∙ zero-gives-way (built .status) 0 (λ h. refl)
 
-served-status : (cache : SatCache) (built : Built) → servedOf cache built .status ≡ built .status
+served-status : (unit : ℕ) (cache : SatCache) (built : Built) → servedOf unit cache built .status ≡ built .status
 unfolding servedOf
-served-status cache built =
+served-status unit cache built =
     choice OfCached (eqb (built .status) 0) _ refl
-    (λ h. picked (λ (c : Cached). c .status ≡ 0) (built .touching) (picked (λ (c : Cached). c .status ≡ 0) (nearOf cache (built .cache)) refl refl) refl)
+    (λ h. picked (λ (c : Cached). c .status ≡ 0) (built .touching) (picked (λ (c : Cached). c .status ≡ 0) (nearOf unit cache (built .cache)) refl refl) refl)
     (λ h. refl)
     ∙ zero-gives-way (built .status) 0 (λ h. refl)
 
 module _ (s : HullSize) (n : List Float) (l : List ℕ) (t : HullSize) (m : List Float) (k : List ℕ) (x : Transform) where
   -- ---- what each contact meets
-  on-status : (contact : Contact) (kind a b : ℕ) (candidates : List ClipVertex) → onFace contact kind a b candidates .status ≡ cutMeets candidates
+  on-status : (unit : ℕ) (contact : Contact) (kind a b : ℕ) (candidates : List ClipVertex)
+      → onFace unit contact kind a b candidates .status ≡ cutMeets candidates
   unfolding onFace touchedOf cutMeets
-  on-status contact kind a b candidates =
+  on-status unit contact kind a b candidates =
       choice OfBuilt (ltb 64 (length candidates)) _ refl (λ h. refl)
-      (λ h. picked Fine (touchingOf (length candidates) (leastSeparationOf candidates)) refl refl)
+      (λ h. picked Fine (touchingOf (speculative unit) (length candidates) (leastSeparationOf candidates)) refl refl)
 
   status-a : (f v : ℕ) → faceAOf s n l t m k x f v .status ≡ faceMeets t v (candidatesOf s n l t m k x f v)
   unfolding faceAOf faceMeets
-  status-a f v = choice OfBuilt (ltb v (t .vertices)) _ refl (λ h. on-status _ 2 f v _) (λ h. refl)
+  status-a f v = choice OfBuilt (ltb v (t .vertices)) _ refl (λ h. on-status (s .unit) _ 2 f v _) (λ h. refl)
 
   status-b : (f v : ℕ) → faceBOf s n l t m k x f v .status ≡ faceMeets s v (candidatesOf t m k s n l (invertOf x) f v)
   unfolding faceBOf faceMeets
-  status-b f v = choice OfBuilt (ltb v (s .vertices)) _ refl (λ h. on-status _ 3 v f _) (λ h. refl)
+  status-b f v = choice OfBuilt (ltb v (s .vertices)) _ refl (λ h. on-status (t .unit) _ 3 v f _) (λ h. refl)
 
   status-pair : (e : Axis) → pairContact s n l t m k x e .status ≡ 0
   unfolding pairContact edgeContactOf alongOf touchedOf
@@ -104,7 +105,7 @@ module _ (s : HullSize) (n : List Float) (l : List ℕ) (t : HullSize) (m : List
   -- ---- the full search
   fine-with : (built : Built) (edge : EdgeAxis) → Fine built → Fine (withEdge s n l t m k x built edge)
   unfolding withEdge insteadOf
-  fine-with built (EdgeAxis.Pair e) q = picked Fine (triesEdge built e) (picked Fine (pairContact s n l t m k x e .touching) (status-pair e) q) q
+  fine-with built (EdgeAxis.Pair e) q = picked Fine (triesEdge (s .unit) built e) (picked Fine (pairContact s n l t m k x e .touching) (status-pair e) q) q
   fine-with built EdgeAxis.None q = q
 
   status-found : (a b : Axis) (edge : EdgeAxis) → foundContact s n l t m k x a b edge .status ≡ winnerContact s n l t m k x a b .status
@@ -135,19 +136,19 @@ module _ (s : HullSize) (n : List Float) (l : List ℕ) (t : HullSize) (m : List
 
   cached-a : (cache : SatCache) → 0 < t .vertices → let f = cache .«index_a» in
       OfCached (cachedFaceAOf s n l t m k x cache)
-      (cond (Ieee.le speculative (separationFromA s n t m x f)) 0 (cutMeets (candidatesOf s n l t m k x f (deepestBelowA s n t m x f))))
+      (cond (Ieee.le (speculative (s .unit)) (separationFromA s n t m x f)) 0 (cutMeets (candidatesOf s n l t m k x f (deepestBelowA s n t m x f))))
   unfolding cachedFaceAOf faceMeets
   cached-a cache some =
-      choice OfCached (Ieee.le speculative (separationFromA s n t m x (cache .«index_a»))) _ refl (λ h. refl)
-      (λ h. served-status cache _ ∙ (status-a _ _ ∙ rw (deepest-a (cache .«index_a») some)))
+      choice OfCached (Ieee.le (speculative (s .unit)) (separationFromA s n t m x (cache .«index_a»))) _ refl (λ h. refl)
+      (λ h. served-status (s .unit) cache _ ∙ (status-a _ _ ∙ rw (deepest-a (cache .«index_a») some)))
 
   cached-b : (cache : SatCache) → 0 < s .vertices → let f = cache .«index_b» in
       OfCached (cachedFaceBOf s n l t m k x cache)
-      (cond (Ieee.le speculative (separationFromB s n t m x f)) 0 (cutMeets (candidatesOf t m k s n l (invertOf x) f (deepestBelowB s n t m x f))))
+      (cond (Ieee.le (speculative (s .unit)) (separationFromB s n t m x f)) 0 (cutMeets (candidatesOf t m k s n l (invertOf x) f (deepestBelowB s n t m x f))))
   unfolding cachedFaceBOf faceMeets
   cached-b cache some =
-      choice OfCached (Ieee.le speculative (separationFromB s n t m x (cache .«index_b»))) _ refl (λ h. refl)
-      (λ h. served-status cache _ ∙ (status-b _ _ ∙ rw (deepest-b (cache .«index_b») some)))
+      choice OfCached (Ieee.le (speculative (s .unit)) (separationFromB s n t m x (cache .«index_b»))) _ refl (λ h. refl)
+      (λ h. served-status (s .unit) cache _ ∙ (status-b _ _ ∙ rw (deepest-b (cache .«index_b») some)))
 
   cached-edge : (cache : SatCache) → cachedEdgeOf s n l t m k x cache .status ≡ 0
   unfolding cachedEdgeOf edgeContactOf alongOf touchedOf
@@ -156,8 +157,8 @@ module _ (s : HullSize) (n : List Float) (l : List ℕ) (t : HullSize) (m : List
       let b = carriedRidge x t m k (cache .«index_b») in
       let none : Cached → Type 0 = λ c. c .status ≡ 0 in
       picked none (crossesOf a b)
-      (picked none (Ieee.lt speculative (dotOf (axisBetween a b) (subOf (a .end) (b .end)))) refl
-      (served-status cache _ ∙ picked Fine (isWithinSegmentsOf (nearestOf s n l t m k x (cache .«index_a») (cache .«index_b»))) refl refl))
+      (picked none (Ieee.lt (speculative (s .unit)) (dotOf (axisBetween a b) (subOf (a .end) (b .end)))) refl
+      (served-status (s .unit) cache _ ∙ picked Fine (isWithinSegmentsOf (nearestOf s n l t m k x (cache .«index_a») (cache .«index_b»))) refl refl))
       refl
 
   after-cached : (cache : SatCache) (cached : Cached) (number : ℕ) → cached .status ≡ number

@@ -16,7 +16,7 @@ use Rattle.vector.specs.Arithmetic.{subOf, dotOf}
 use Rattle.manifold.specs.declared.SatCache.{SatCache}
 use Rattle.manifold.specs.declared.Outcome.{Outcome}
 use Rattle.manifold.specs.declared.Answer.{Answer}
-use Rattle.manifold.specs.Limits.{speculative}
+use Rattle.units.specs.Limits.{speculative}
 use Rattle.manifold.specs.Records.{emptyContact, hitSet}
 use Rattle.hull_links.specs.declared.HullSize.{HullSize}
 use Rattle.axis.specs.declared.Apart.{Apart}
@@ -66,12 +66,12 @@ module _ (s : HullSize) (n : List Float) (l : List ℕ) (t : HullSize) (m : List
   served cached p q = sym (cached-hit s n l t m k x cache cached p q)
 
   -- "Type 2 or 3: .. At or above speculative: hit 1, no points."
-  pub face-a-apart : cache .kind ≡ 2 → Ieee.le speculative (separationFromA s n t m x (cache .«index_a»)) ≡ true
+  pub face-a-apart : cache .kind ≡ 2 → Ieee.le (speculative (s .unit)) (separationFromA s n t m x (cache .«index_a»)) ≡ true
       → collideOf s n l t m k x capacity cache ≡ accepted 0 emptyContact (hitSet 1 cache)
   unfolding cachedFaceAOf afterCached
   face-a-apart q h = sym (call-worked s n l t m k x cache capacity wide right) ∙ sym (at-2 s n l t m k x cache q) ∙ rw h
 
-  pub face-b-apart : cache .kind ≡ 3 → Ieee.le speculative (separationFromB s n t m x (cache .«index_b»)) ≡ true
+  pub face-b-apart : cache .kind ≡ 3 → Ieee.le (speculative (s .unit)) (separationFromB s n t m x (cache .«index_b»)) ≡ true
       → collideOf s n l t m k x capacity cache ≡ accepted 0 emptyContact (hitSet 1 cache)
   unfolding cachedFaceBOf afterCached
   face-b-apart q h = sym (call-worked s n l t m k x cache capacity wide right) ∙ sym (at-3 s n l t m k x cache q) ∙ rw h
@@ -79,7 +79,7 @@ module _ (s : HullSize) (n : List Float) (l : List ℕ) (t : HullSize) (m : List
   -- "Type 4: .. Strictly above speculative: hit 1, no points."
   pub edge-apart : cache .kind ≡ 4
       → let a = ridgeOf s n l (cache .«index_a») in let b = carriedRidge x t m k (cache .«index_b») in
-      crossesOf a b ≡ true → Ieee.lt speculative (dotOf (axisBetween a b) (subOf (a .end) (b .end))) ≡ true
+      crossesOf a b ≡ true → Ieee.lt (speculative (s .unit)) (dotOf (axisBetween a b) (subOf (a .end) (b .end))) ≡ true
       → collideOf s n l t m k x capacity cache ≡ accepted 0 emptyContact (hitSet 1 cache)
   unfolding cachedEdgeOf afterCached
   edge-apart q c h = sym (call-worked s n l t m k x cache capacity wide right) ∙ sym (at-4 s n l t m k x cache q) ∙ rw (c, h)

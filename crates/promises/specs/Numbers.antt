@@ -13,7 +13,7 @@ use Rattle.vector.specs.declared.Transform.{Transform}
 use Rattle.rotation.specs.Rotation.{invertOf}
 use Rattle.manifold.specs.declared.ClipVertex.{ClipVertex}
 use Rattle.manifold.specs.declared.SatCache.{SatCache}
-use Rattle.manifold.specs.Limits.{speculative}
+use Rattle.units.specs.Limits.{speculative}
 use Rattle.hull_links.specs.declared.HullSize.{HullSize}
 use Rattle.clip.specs.Candidates.{candidatesOf}
 use Rattle.axis.specs.declared.Search.{Search}
@@ -68,8 +68,9 @@ module _ (s : HullSize) (n : List Float) (l : List ℕ) (t : HullSize) (m : List
   cachedMeets cache =
       let f = cache .«index_a» in
       let g = cache .«index_b» in
-      cond (eqb (cache .kind) 2) (cond (Ieee.le speculative (separationFromA s n t m x f)) 0 (cutMeets (onA f (deepestBelowA s n t m x f))))
-      (cond (eqb (cache .kind) 3) (cond (Ieee.le speculative (separationFromB s n t m x g)) 0 (cutMeets (onB g (deepestBelowB s n t m x g))))
+      let far = speculative (s .unit) in
+      cond (eqb (cache .kind) 2) (cond (Ieee.le far (separationFromA s n t m x f)) 0 (cutMeets (onA f (deepestBelowA s n t m x f))))
+      (cond (eqb (cache .kind) 3) (cond (Ieee.le far (separationFromB s n t m x g)) 0 (cutMeets (onB g (deepestBelowB s n t m x g))))
       0)
 
   -- whether the cached axis serves
@@ -84,7 +85,7 @@ module _ (s : HullSize) (n : List Float) (l : List ℕ) (t : HullSize) (m : List
   unfoldable pub workMeets : SatCache → ℕ
   workMeets cache = firstGiven (cachedMeets cache) (cond (hits cache) 0 fullMeets)
 
-  -- "capacity below 4 comes first and is accepted .. Then 1, 2, 3, 4, then .. 5, 6": 0 is accepted
+  -- "capacity below 4 comes first and is accepted .. Then 1, 2, 3, 4, then .. 5, 6", with 17 between 2 and 3: 0 is accepted
   unfoldable pub numberOf : ℤ → SatCache → ℕ
   numberOf capacity cache = cond (ltZ capacity (pos 4)) 0 (firstGiven (refusalOf s n l t m k x cache) (workMeets cache))
 

@@ -13,8 +13,8 @@ use Rattle.vector.specs.declared.Transform.{Transform}
 use Rattle.vector.specs.Rounded.{_⊕_, _⊖_, float}
 use Rattle.vector.specs.Scalar.{absOf}
 use Rattle.vector.specs.Arithmetic.{subOf, negOf, dotOf}
+use Rattle.units.specs.Limits.{slop, speculative}
 use Rattle.manifold.specs.declared.SatCache.{SatCache}
-use Rattle.manifold.specs.Limits.{slop, speculative}
 use Rattle.hull_links.specs.declared.HullSize.{HullSize}
 use Rattle.axis.specs.declared.Axis.{Axis}
 use Rattle.axis.specs.declared.EdgeAxis.{EdgeAxis}
@@ -30,14 +30,14 @@ use Rattle.promises.specs.Sources.{Source, small-capacity, refused, apar
 unfoldable pub winnerOf : Axis → Axis → Source
 winnerOf a b = cond (Ieee.lt (b .separation) (a .separation)) (face-a (a .«index_a») (a .«index_b»)) (face-b (b .«index_b») (b .«index_a»))
 
--- hull A is (s, n, l), hull B is (t, m, k), and x places B in A's frame
+-- hull A is (s, n, l), hull B is (t, m, k), of one unit, and x places B in A's frame
 module _ (s : HullSize) (n : List Float) (l : List ℕ) (t : HullSize) (m : List Float) (k : List ℕ) (x : Transform) where
   -- ---- the full search
   -- "The edge contact is then tried if there is a pair and either no points stand or the edge separation is strictly above the cache's plus slop; it
   -- replaces contact and cache only if it made its one point"
   unfoldable pub triedOver : Source → Axis → Bool
   triedOver face e =
-      cond (eqb (length (placesFrom s n l t m k x face)) 0) true (Ieee.lt (separationFrom s n l t m k x face ⊕ slop) (e .separation))
+      cond (eqb (length (placesFrom s n l t m k x face)) 0) true (Ieee.lt (separationFrom s n l t m k x face ⊕ slop (s .unit)) (e .separation))
 
   unfoldable pub orPair : Source → EdgeAxis → Source
   orPair face (EdgeAxis.Pair e) =
@@ -56,7 +56,7 @@ module _ (s : HullSize) (n : List Float) (l : List ℕ) (t : HullSize) (m : List
   -- "if it touches and the two separations differ by less than slop: hit 1, done"
   unfoldable pub serves : SatCache → Source → Bool
   serves cache source =
-      cond (touches s n l t m k x source) (Ieee.lt (absOf (float (cache .separation) ⊖ separationFrom s n l t m k x source)) slop) false
+      cond (touches s n l t m k x source) (Ieee.lt (absOf (float (cache .separation) ⊖ separationFrom s n l t m k x source)) (slop (s .unit))) false
 
   -- an axis along which the hulls are apart: "hit 1, no points"; one that serves; "Else full search"
   unfoldable pub cachedSource : SatCache → Bool → Source → Source
@@ -66,7 +66,7 @@ module _ (s : HullSize) (n : List Float) (l : List ℕ) (t : HullSize) (m : List
   unfoldable pub cachedEdges : SatCache → Ridge → Ridge → Source
   cachedEdges cache a b =
       let axis = axisBetween a b in
-      let isApart = Ieee.lt speculative (dotOf axis (subOf (a .end) (b .end))) in
+      let isApart = Ieee.lt (speculative (s .unit)) (dotOf axis (subOf (a .end) (b .end))) in
       cond (crossesOf a b) (cachedSource cache isApart (edges (negOf axis) (cache .«index_a») (cache .«index_b»))) fullSource
 
   -- "Type 2 or 3: support vertex and separation of the cached face. At or above speculative: hit 1, no points." All types but 2, 3 and 4: full search
@@ -74,8 +74,9 @@ module _ (s : HullSize) (n : List Float) (l : List ℕ) (t : HullSize) (m : List
   workSource cache =
       let i = cache .«index_a» in
       let j = cache .«index_b» in
-      cond (eqb (cache .kind) 2) (cachedSource cache (Ieee.le speculative (separationFromA s n t m x i)) (face-a i (deepestBelowA s n t m x i)))
-      (cond (eqb (cache .kind) 3) (cachedSource cache (Ieee.le speculative (separationFromB s n t m x j)) (face-b j (deepestBelowB s n t m x j)))
+      let far = speculative (s .unit) in
+      cond (eqb (cache .kind) 2) (cachedSource cache (Ieee.le far (separationFromA s n t m x i)) (face-a i (deepestBelowA s n t m x i)))
+      (cond (eqb (cache .kind) 3) (cachedSource cache (Ieee.le far (separationFromB s n t m x j)) (face-b j (deepestBelowB s n t m x j)))
       (cond (eqb (cache .kind) 4) (cachedEdges cache (ridgeOf s n l i) (carriedRidge x t m k j))
       fullSource))
 

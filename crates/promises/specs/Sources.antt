@@ -12,6 +12,7 @@ use Rattle.vector.specs.Rounded.{float}
 use Rattle.vector.specs.Arithmetic.{zeroVec, negOf}
 use Rattle.vector.specs.Awaited.{arbitraryPerpOf, isWithinSegmentsOf}
 use Rattle.rotation.specs.Rotation.{matrixOf, mulMvOf, invertOf}
+use Rattle.units.specs.Limits.{speculative}
 use Rattle.manifold.specs.declared.ClipVertex.{ClipVertex}
 use Rattle.manifold.specs.declared.Point.{Point}
 use Rattle.manifold.specs.declared.Contact.{Contact}
@@ -46,18 +47,19 @@ pub record NoCandidates (source : Source) : Type 0 where
   pub is : source ≡ none why
 
 -- the places of the candidates that become points: all of four or fewer, else the picks by the scores, made in the face's own frame
-unfoldable pub placesOn : Vec3 → List ClipVertex → List ℕ
-placesOn normal candidates = placesOf (firstPicks (arbitraryPerpOf normal) normal (map (imageOf normal) candidates)) (length candidates)
+unfoldable pub placesOn : ℕ → Vec3 → List ClipVertex → List ℕ
+placesOn unit normal candidates =
+    placesOf (firstPicks (speculative unit) (arbitraryPerpOf normal) normal (map (imageOf normal) candidates)) (length candidates)
 
 -- "Fewer than 3 left, or least separation at or above speculative: not touching"
-abbrev touchOn : List ClipVertex → Bool
-touchOn candidates = touchingOf (length candidates) (leastSeparationOf candidates)
+abbrev touchOn : ℕ → List ClipVertex → Bool
+touchOn unit candidates = touchingOf (speculative unit) (length candidates) (leastSeparationOf candidates)
 
 -- a separation as it goes into the cache, by its bits
 abbrev stored : Float → Float
 stored separation = float (toBits binary32 separation)
 
--- hull A is (s, n, l), hull B is (t, m, k), and x places B in A's frame
+-- hull A is (s, n, l), hull B is (t, m, k), and x places B in A's frame. The limits of a face go by its own hull's unit, which both hulls share
 module _ (s : HullSize) (n : List Float) (l : List ℕ) (t : HullSize) (m : List Float) (k : List ℕ) (x : Transform) where
   -- ---- what comes of a source
   -- "What the last cut leaves are the candidates"; "the edge pair's one point is its own candidate and image"
@@ -80,8 +82,8 @@ module _ (s : HullSize) (n : List Float) (l : List ℕ) (t : HullSize) (m : List
 
   -- which candidates become points, by their places in that list
   unfoldable pub placesFrom : Source → List ℕ
-  placesFrom (face-a f v) = placesOn (planeAt s n f .normal) (candidatesFrom (face-a f v))
-  placesFrom (face-b f v) = placesOn (planeAt t m f .normal) (candidatesFrom (face-b f v))
+  placesFrom (face-a f v) = placesOn (s .unit) (planeAt s n f .normal) (candidatesFrom (face-a f v))
+  placesFrom (face-b f v) = placesOn (t .unit) (planeAt t m f .normal) (candidatesFrom (face-b f v))
   placesFrom (edges normal a b) = 0 ∷ []
   placesFrom (none why) = []
 
@@ -100,8 +102,8 @@ module _ (s : HullSize) (n : List Float) (l : List ℕ) (t : HullSize) (m : List
 
   -- ---- which sources touch, and how far apart they are; edges touch where the nearest points of their lines lie on both
   unfoldable pub touches : Source → Bool
-  touches (face-a f v) = touchOn (candidatesFrom (face-a f v))
-  touches (face-b f v) = touchOn (candidatesFrom (face-b f v))
+  touches (face-a f v) = touchOn (s .unit) (candidatesFrom (face-a f v))
+  touches (face-b f v) = touchOn (t .unit) (candidatesFrom (face-b f v))
   touches (edges normal a b) = isWithinSegmentsOf (nearestOf s n l t m k x a b)
   touches (none why) = false
 

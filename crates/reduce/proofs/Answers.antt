@@ -6,21 +6,20 @@ use mathlib.Core.Logic.{_⊎_, inl, inr, ⊎-elim}
 use mathlib.Core.List.{List}
 use native.Mathlib.Omega.{arith}
 use lib.ListN.{length, take, getD}
-use lib.Ieee.{Float, lt, le, mul, neg, ofBits}
+use lib.Ieee.{Float, lt, le, neg}
 use Rattle.vector.specs.declared.Vec3.{Vec3}
 use Rattle.vector.specs.Rounded.{float, _⊗_}
 use Rattle.vector.specs.Scalar.{absOf}
 use Rattle.vector.specs.Arithmetic.{subOf}
 use Rattle.manifold.specs.declared.ClipVertex.{ClipVertex}
 use Rattle.manifold.specs.Records.{pastVertex}
-use Rattle.manifold.specs.Limits.{speculative}
 use Rattle.manifold.proofs.Polygons.{turns-keep}
 use Rattle.reduce_scores.specs.declared.Best.{Best}
 use Rattle.reduce_scores.specs.declared.Triangle.{Triangle}
 use Rattle.reduce_scores.specs.Images.{largest}
 use Rattle.reduce_scores.specs.Scores.{bias, betterPickOf, asGoodOf, firstTurn, reachOf, spreadOf, signedAreaOf, outsideOf}
 use Rattle.reduce_scores.proofs.Over.{over, turn-over, end-over}
-use Rattle.reduce.specs.Reduce.{tolerance, firstBest, secondBest, thirdBest, fourthBest}
+use Rattle.reduce.specs.Reduce.{firstBest, secondBest, thirdBest, fourthBest}
 use Rattle.reduce.proofs.Standing.{left, stands, read-left, length-left-of}
 
 -- ---- one turn of each, and where they start
@@ -51,16 +50,17 @@ module _ (f : Turn) (start : Best) (xs : List ClipVertex) (n : ℕ) (long : n �
   search-end s i h k p = end-over f start (left pastVertex (take n xs) js) s i (n - length js) (length-left-of pastVertex xs n js long) h k p
 
 -- the end of the third and of the fourth search, whose turns read what a call gave
-pub third-end : (normal a b d : Vec3) (l : List ClipVertex) (s : Best) → d ≡ subOf b a → s ≡ over (thirdTurn normal a d) (nothing tolerance) l (length l)
+pub third-end : (tolerance : Float) (normal a b d : Vec3) (l : List ClipVertex) (s : Best) → d ≡ subOf b a → s ≡ over (thirdTurn normal a d)
+    (nothing tolerance) l (length l)
     → s ≡ thirdBest normal tolerance a b l
 unfolding thirdBest
-third-end normal a b d l s e h = h ∙ ap (λ (x : Vec3). over (thirdTurn normal a x) (nothing tolerance) l (length l)) e
+third-end tolerance normal a b d l s e h = h ∙ ap (λ (x : Vec3). over (thirdTurn normal a x) (nothing tolerance) l (length l)) e
 
-pub fourth-end : (normal : Vec3) (t u : Triangle) (l : List ClipVertex) (s : Best) → u ≡ t
+pub fourth-end : (tolerance : Float) (normal : Vec3) (t u : Triangle) (l : List ClipVertex) (s : Best) → u ≡ t
     → s ≡ over (fourthTurn normal u) (nothing tolerance) l (length l)
     → s ≡ fourthBest normal tolerance t l
 unfolding fourthBest
-fourth-end normal t u l s e h = h ∙ ap (λ (x : Triangle). over (fourthTurn normal x) (nothing tolerance) l (length l)) e
+fourth-end tolerance normal t u l s e h = h ∙ ap (λ (x : Triangle). over (fourthTurn normal x) (nothing tolerance) l (length l)) e
 
 -- ---- the answer: where each turn keeps the best or takes its own index, it is the start, or an index below the length
 abbrev pub Takes : Turn → Type 0
@@ -91,9 +91,9 @@ passed-over : (q : Bool) (s next : Best) (i : ℕ) → (next ≡ s) ⊎ (next .i
 passed-over true s next i e = inl refl
 passed-over false s next i e = e
 
-takes-first : (direction : Vec3) → Takes (firstTurn direction)
+takes-first : (far : Float) (direction : Vec3) → Takes (firstTurn far direction)
 unfolding firstTurn
-takes-first direction s i v = passed-over (lt speculative (v .separation)) s (betterPickOf s i (reachOf direction v)) i
+takes-first far direction s i v = passed-over (lt far (v .separation)) s (betterPickOf s i (reachOf direction v)) i
     (takes-better s i (reachOf direction v))
 
 -- what is found lies below the length
@@ -102,31 +102,25 @@ found-low : (f : Turn) → Takes f → (score : Float) (l : List ClipVertex) (r 
 found-low f takes score l r e t =
     ⊎-elim (λ q. absurd (false≢true (sym (ap (λ (b : Best). b .found) (e ∙ q)) ∙ t))) (λ q. rw e q) (answer f takes (nothing score) l)
 
-pub first-low : (direction : Vec3) (l : List ClipVertex) (r : Best) → r ≡ firstBest direction l → r .found ≡ true → r .index < length l
+pub first-low : (far : Float) (direction : Vec3) (l : List ClipVertex) (r : Best) → r ≡ firstBest far direction l → r .found ≡ true → r .index < length l
 unfolding firstBest
-first-low direction = found-low (firstTurn direction) (takes-first direction) (neg largest)
+first-low far direction = found-low (firstTurn far direction) (takes-first far direction) (neg largest)
 
-pub third-low : (normal a b : Vec3) (l : List ClipVertex) (r : Best) → r ≡ thirdBest normal tolerance a b l → r .found ≡ true → r .index < length l
+pub third-low : (tolerance : Float) (normal a b : Vec3) (l : List ClipVertex) (r : Best) → r ≡ thirdBest normal tolerance a b l → r .found ≡ true
+    → r .index < length l
 unfolding thirdBest
-third-low normal a b =
+third-low tolerance normal a b =
     found-low (thirdTurn normal a (subOf b a)) (λ s i v. takes-as-good s i (absOf (signedAreaOf normal a (subOf b a) (v .position)))) tolerance
 
-pub fourth-low : (normal : Vec3) (t : Triangle) (l : List ClipVertex) (r : Best) → r ≡ fourthBest normal tolerance t l → r .found ≡ true → r .index < length l
+pub fourth-low : (tolerance : Float) (normal : Vec3) (t : Triangle) (l : List ClipVertex) (r : Best)
+    → r ≡ fourthBest normal tolerance t l → r .found ≡ true → r .index < length l
 unfolding fourthBest
-fourth-low normal t = found-low (fourthTurn normal t) (λ s i v. takes-better s i (outsideOf normal t (v .position))) tolerance
+fourth-low tolerance normal t = found-low (fourthTurn normal t) (λ s i v. takes-better s i (outsideOf normal t (v .position))) tolerance
 
--- the constant that the compiler makes of 0.02 * 0.02 is the rounded product
-pub folded : float 0x39d1_b717 ≡ tolerance
-unfolding mul ofBits
-folded = refl
-
--- the second search starts below the tolerance, so that a score that is not below it was found
-below-tolerance : lt (float 0) tolerance ≡ true
-unfolding lt mul ofBits
-below-tolerance = refl
-
-pub second-low : (normal a : Vec3) (l : List ClipVertex) (r : Best) → r ≡ secondBest normal a l → lt (r .score) tolerance ≡ false → r .index < length l
+-- the second search starts below a tolerance above 0, so that a score that is not below it was found
+pub second-low : (tolerance : Float) → lt (float 0) tolerance ≡ true → (normal a : Vec3) (l : List ClipVertex) (r : Best) → r ≡ secondBest normal a l
+    → lt (r .score) tolerance ≡ false → r .index < length l
 unfolding secondBest
-second-low normal a l r e t =
-    ⊎-elim (λ q. absurd (false≢true (sym t ∙ ap (λ (b : Best). lt (b .score) tolerance) (e ∙ q) ∙ below-tolerance))) (λ q. rw e q)
+second-low tolerance positive normal a l r e t =
+    ⊎-elim (λ q. absurd (false≢true (sym t ∙ ap (λ (b : Best). lt (b .score) tolerance) (e ∙ q) ∙ positive))) (λ q. rw e q)
     (answer (secondTurn normal a) (λ s i v. takes-better s i (spreadOf normal a v)) (nothing (float 0)) l)

@@ -9,9 +9,10 @@ use native.Mathlib.Omega.{arith}
 use lib.Dec.{eqb, leb}
 use lib.ListN.{length, getD, length-append, length-map, List·getD-append}
 use lib.Seq.{ext-getD, getD-at}
-use lib.Ieee.{lt}
+use lib.Ieee.{Float, lt}
 use borrow.Author.Tests.{eqb-true, eqb-false, leb-true}
 use Rattle.vector.specs.declared.Vec3.{Vec3}
+use Rattle.vector.specs.Rounded.{float}
 use Rattle.manifold.specs.declared.ClipVertex.{ClipVertex}
 use Rattle.manifold.specs.declared.Point.{Point}
 use Rattle.manifold.specs.Records.{pastVertex, pastPoint}
@@ -44,38 +45,38 @@ where-enough : (short : Bool) (k n j : ℕ) (js : List ℕ) → (short ≡ false
 where-enough true k n j js h p = none
 where-enough false k n j js h p = one (h refl) p
 
-module _ (normal : Vec3) where
-  fourth-picked : (v1 v2 v3 : ClipVertex) (l : List ClipVertex) (n : ℕ) → length l ≡ n → Picked 1 (fourthPicks normal v1 v2 v3 l) n
+module _ (far : Float) (positive : lt (float 0) (tolerance far) ≡ true) (normal : Vec3) where
+  fourth-picked : (v1 v2 v3 : ClipVertex) (l : List ClipVertex) (n : ℕ) → length l ≡ n → Picked 1 (fourthPicks far normal v1 v2 v3 l) n
   unfolding fourthPicks
   fourth-picked v1 v2 v3 l n e =
       let t = triangleOf normal (v1 .position) (v2 .position) (v3 .position) in
-      let best = fourthBest normal tolerance t l in
-      where-found (best .found) 0 n (best .index) [] (λ h. rw (← e) (fourth-low normal t l best refl h)) none
+      let best = fourthBest normal (tolerance far) t l in
+      where-found (best .found) 0 n (best .index) [] (λ h. rw (← e) (fourth-low (tolerance far) normal t l best refl h)) none
 
-  third-picked : (v1 v2 : ClipVertex) (l : List ClipVertex) (n : ℕ) → length l ≡ n → Picked 2 (thirdPicks normal v1 v2 l) n
+  third-picked : (v1 v2 : ClipVertex) (l : List ClipVertex) (n : ℕ) → length l ≡ n → Picked 2 (thirdPicks far normal v1 v2 l) n
   unfolding thirdPicks
   third-picked v1 v2 l n e =
-      let best = thirdBest normal tolerance (v1 .position) (v2 .position) l in
+      let best = thirdBest normal (tolerance far) (v1 .position) (v2 .position) l in
       let rest = without pastVertex l (best .index) in
-      where-found (best .found) 1 n (best .index) (fourthPicks normal v1 v2 (getD l (best .index) pastVertex) rest)
-      (λ h. rw (← e) (third-low normal (v1 .position) (v2 .position) l best refl h))
+      where-found (best .found) 1 n (best .index) (fourthPicks far normal v1 v2 (getD l (best .index) pastVertex) rest)
+      (λ h. rw (← e) (third-low (tolerance far) normal (v1 .position) (v2 .position) l best refl h))
       (fourth-picked v1 v2 (getD l (best .index) pastVertex) rest (n - 1) (length-without pastVertex l (best .index) ∙ ap (λ (m : ℕ). m - 1) e))
 
-  second-picked : (v1 : ClipVertex) (l : List ClipVertex) (n : ℕ) → length l ≡ n → Picked 3 (secondPicks normal v1 l) n
+  second-picked : (v1 : ClipVertex) (l : List ClipVertex) (n : ℕ) → length l ≡ n → Picked 3 (secondPicks far normal v1 l) n
   unfolding secondPicks
   second-picked v1 l n e =
       let best = secondBest normal (v1 .position) l in
       let rest = without pastVertex l (best .index) in
-      where-enough (lt (best .score) tolerance) 2 n (best .index) (thirdPicks normal v1 (getD l (best .index) pastVertex) rest)
-      (λ h. rw (← e) (second-low normal (v1 .position) l best refl h))
+      where-enough (lt (best .score) (tolerance far)) 2 n (best .index) (thirdPicks far normal v1 (getD l (best .index) pastVertex) rest)
+      (λ h. rw (← e) (second-low (tolerance far) positive normal (v1 .position) l best refl h))
       (third-picked v1 (getD l (best .index) pastVertex) rest (n - 1) (length-without pastVertex l (best .index) ∙ ap (λ (m : ℕ). m - 1) e))
 
-  first-picked : (direction : Vec3) (l : List ClipVertex) → Picked 4 (firstPicks direction normal l) (length l)
+  first-picked : (direction : Vec3) (l : List ClipVertex) → Picked 4 (firstPicks far direction normal l) (length l)
   unfolding firstPicks
   first-picked direction l =
-      let best = firstBest direction l in
+      let best = firstBest far direction l in
       let rest = without pastVertex l (best .index) in
-      where-found (best .found) 3 (length l) (best .index) (secondPicks normal (getD l (best .index) pastVertex) rest) (first-low direction l best refl)
+      where-found (best .found) 3 (length l) (best .index) (secondPicks far normal (getD l (best .index) pastVertex) rest) (first-low far direction l best refl)
       (second-picked (getD l (best .index) pastVertex) rest (length l - 1) (length-without pastVertex l (best .index)))
 
 -- ---- what is taken
@@ -202,15 +203,15 @@ module _ (js : List ℕ) (n : ℕ) (p : Picked 4 js n) where
   unfolding allOrPicked
   once-kept m e h = cases (leb (length m) 4) (λ t. rw t h) (λ t. rw t (once-taken m p e h))
 
--- ---- the theorem
+-- ---- the theorem, at any speculative distance whose square is above 0
 -- the picks are made by the scores of l, and take from images that are as many
-pub chosen : (direction normal : Vec3) (l images : List ClipVertex) → length images ≡ length l
-    → let picks = firstPicks direction normal l in Chosen images (pointsOf picks images) (placesOf picks (length images))
+pub chosen : (far : Float) → lt (float 0) (tolerance far) ≡ true → (direction normal : Vec3) (l images : List ClipVertex) → length images ≡ length l
+    → let picks = firstPicks far direction normal l in Chosen images (pointsOf picks images) (placesOf picks (length images))
 unfolding pointsOf placesOf
-chosen direction normal l images as-many =
+chosen far positive direction normal l images as-many =
     let n = length images in
-    let js = firstPicks direction normal l in
-    let p : Picked 4 js n = subst (Picked 4 js) (sym as-many) (first-picked normal direction l) in
+    let js = firstPicks far direction normal l in
+    let p : Picked 4 js n = subst (Picked 4 js) (sym as-many) (first-picked far positive normal direction l) in
     let at : ℕ → Point = λ j. pointOf j (getD images j pastVertex) in
     let m : length (numbered n) ≡ n = length-numbered n in
     let once : Once (numbered n) = λ a b h k e. sym (at-numbered n a (omega (arith, m))) ∙ (e ∙ at-numbered n b (omega (arith, m))) in
@@ -224,11 +225,12 @@ chosen direction normal l images as-many =
     }
 
 -- points that are carried are the points of the carried images
-pub points-map : (direction normal : Vec3) (l : List ClipVertex) (g : ClipVertex → ClipVertex) (h : Point → Point)
+pub points-map : (far : Float) → lt (float 0) (tolerance far) ≡ true → (direction normal : Vec3) (l : List ClipVertex) (g : ClipVertex → ClipVertex)
+    (h : Point → Point)
     → ((j : ℕ) (v : ClipVertex) → h (pointOf j v) ≡ pointOf j (g v))
-    → let picks = firstPicks direction normal l in map h (pointsOf picks l) ≡ pointsOf picks (map g l)
+    → let picks = firstPicks far direction normal l in map h (pointsOf picks l) ≡ pointsOf picks (map g l)
 unfolding pointsOf
-points-map direction normal l g h e =
-    let js = firstPicks direction normal l in
-    sym (map-kept js (length l) (first-picked normal direction l) h pastPoint pastPoint (placed l) (length-placed 0 l))
+points-map far positive direction normal l g h e =
+    let js = firstPicks far direction normal l in
+    sym (map-kept js (length l) (first-picked far positive normal direction l) h pastPoint pastPoint (placed l) (length-placed 0 l))
     ∙ ap (allOrPicked pastPoint js) (placed-map g h e 0 l)

@@ -4,7 +4,7 @@ use mathlib.Core.Path.{_≡_}
 use mathlib.Core.Bool.{true, false}
 use mathlib.Core.List.{List, [], _∷_}
 use lib.ListN.{length, getD}
-use lib.Ieee.{lt}
+use lib.Ieee.{Float, lt}
 use borrow.Author.Tests.{le-leb, lt-leb}
 use Rattle.vector.specs.declared.Vec3.{Vec3}
 use Rattle.manifold.specs.declared.ClipVertex.{ClipVertex}
@@ -26,46 +26,48 @@ pub picks-kept : (picks : List ℕ) (l : List ClipVertex) → 4 < length l → t
 unfolding allOrPicked pointsOf
 picks-kept picks l h = rw (length-placed 0 l, lt-leb (length l) 4 h)
 
-module _ (normal direction : Vec3) (l : List ClipVertex) (m : List Point) (best : Best) (e : best ≡ firstBest direction l) where
-  pub no-first : best .found ≡ false → [] ≡ taken pastPoint (firstPicks direction normal l) m
+module _ (far : Float) (normal direction : Vec3) (l : List ClipVertex) (m : List Point) (best : Best) (e : best ≡ firstBest far direction l) where
+  pub no-first : best .found ≡ false → [] ≡ taken pastPoint (firstPicks far direction normal l) m
   unfolding taken firstPicks
   no-first h = rw (← e, h)
 
   pub a-first : (v : ClipVertex) (p : Point) → v ≡ getD l (best .index) pastVertex → p ≡ getD m (best .index) pastPoint → best .found ≡ true
-      → p ∷ taken pastPoint (secondPicks normal v (without pastVertex l (best .index))) (without pastPoint m (best .index))
-      ≡ taken pastPoint (firstPicks direction normal l) m
+      → p ∷ taken pastPoint (secondPicks far normal v (without pastVertex l (best .index))) (without pastPoint m (best .index))
+      ≡ taken pastPoint (firstPicks far direction normal l) m
   unfolding taken firstPicks
   a-first v p q r h = rw (← e, h, q, r)
 
-module _ (normal : Vec3) (v1 : ClipVertex) (l : List ClipVertex) (m : List Point) (best : Best) (e : best ≡ secondBest normal (v1 .position) l) where
-  pub no-second : lt (best .score) tolerance ≡ true → [] ≡ taken pastPoint (secondPicks normal v1 l) m
+module _ (far : Float) (normal : Vec3) (v1 : ClipVertex) (l : List ClipVertex) (m : List Point) (best : Best)
+    (e : best ≡ secondBest normal (v1 .position) l) where
+  pub no-second : lt (best .score) (tolerance far) ≡ true → [] ≡ taken pastPoint (secondPicks far normal v1 l) m
   unfolding taken secondPicks
   no-second h = rw (← e, h)
 
-  pub a-second : (v : ClipVertex) (p : Point) → v ≡ getD l (best .index) pastVertex → p ≡ getD m (best .index) pastPoint → lt (best .score) tolerance ≡ false
-      → p ∷ taken pastPoint (thirdPicks normal v1 v (without pastVertex l (best .index))) (without pastPoint m (best .index))
-      ≡ taken pastPoint (secondPicks normal v1 l) m
+  pub a-second : (v : ClipVertex) (p : Point) → v ≡ getD l (best .index) pastVertex → p ≡ getD m (best .index) pastPoint
+      → lt (best .score) (tolerance far) ≡ false
+      → p ∷ taken pastPoint (thirdPicks far normal v1 v (without pastVertex l (best .index))) (without pastPoint m (best .index))
+      ≡ taken pastPoint (secondPicks far normal v1 l) m
   unfolding taken secondPicks
   a-second v p q r h = rw (← e, h, q, r)
 
-module _ (normal : Vec3) (v1 v2 : ClipVertex) (l : List ClipVertex) (m : List Point) (best : Best)
-    (e : best ≡ thirdBest normal tolerance (v1 .position) (v2 .position) l) where
-  pub no-third : best .found ≡ false → [] ≡ taken pastPoint (thirdPicks normal v1 v2 l) m
+module _ (far : Float) (normal : Vec3) (v1 v2 : ClipVertex) (l : List ClipVertex) (m : List Point) (best : Best)
+    (e : best ≡ thirdBest normal (tolerance far) (v1 .position) (v2 .position) l) where
+  pub no-third : best .found ≡ false → [] ≡ taken pastPoint (thirdPicks far normal v1 v2 l) m
   unfolding taken thirdPicks
   no-third h = rw (← e, h)
 
   pub a-third : (v : ClipVertex) (p : Point) → v ≡ getD l (best .index) pastVertex → p ≡ getD m (best .index) pastPoint → best .found ≡ true
-      → p ∷ taken pastPoint (fourthPicks normal v1 v2 v (without pastVertex l (best .index))) (without pastPoint m (best .index))
-      ≡ taken pastPoint (thirdPicks normal v1 v2 l) m
+      → p ∷ taken pastPoint (fourthPicks far normal v1 v2 v (without pastVertex l (best .index))) (without pastPoint m (best .index))
+      ≡ taken pastPoint (thirdPicks far normal v1 v2 l) m
   unfolding taken thirdPicks
   a-third v p q r h = rw (← e, h, q, r)
 
-module _ (normal : Vec3) (v1 v2 v3 : ClipVertex) (l : List ClipVertex) (m : List Point) (best : Best)
-    (e : best ≡ fourthBest normal tolerance (triangleOf normal (v1 .position) (v2 .position) (v3 .position)) l) where
-  pub no-fourth : best .found ≡ false → [] ≡ taken pastPoint (fourthPicks normal v1 v2 v3 l) m
+module _ (far : Float) (normal : Vec3) (v1 v2 v3 : ClipVertex) (l : List ClipVertex) (m : List Point) (best : Best)
+    (e : best ≡ fourthBest normal (tolerance far) (triangleOf normal (v1 .position) (v2 .position) (v3 .position)) l) where
+  pub no-fourth : best .found ≡ false → [] ≡ taken pastPoint (fourthPicks far normal v1 v2 v3 l) m
   unfolding taken fourthPicks
   no-fourth h = rw (← e, h)
 
-  pub a-fourth : (p : Point) → p ≡ getD m (best .index) pastPoint → best .found ≡ true → p ∷ [] ≡ taken pastPoint (fourthPicks normal v1 v2 v3 l) m
+  pub a-fourth : (p : Point) → p ≡ getD m (best .index) pastPoint → best .found ≡ true → p ∷ [] ≡ taken pastPoint (fourthPicks far normal v1 v2 v3 l) m
   unfolding taken fourthPicks
   a-fourth p r h = rw (← e, h, r)

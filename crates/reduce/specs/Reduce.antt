@@ -14,7 +14,6 @@ use Rattle.vector.specs.Arithmetic.{subOf}
 use Rattle.manifold.specs.declared.ClipVertex.{ClipVertex}
 use Rattle.manifold.specs.declared.Point.{Point}
 use Rattle.manifold.specs.Records.{pastVertex, pastPoint}
-use Rattle.manifold.specs.Limits.{speculative}
 use Rattle.manifold.specs.Polygons.{turns}
 use Rattle.reduce_scores.specs.declared.Best.{Best}
 use Rattle.reduce_scores.specs.declared.Triangle.{Triangle}
@@ -43,8 +42,8 @@ none score = record { found = false; index = 0; score = score }
 abbrev at : List ClipVertex → ℕ → ClipVertex
 at l i = getD l i pastVertex
 
-unfoldable pub firstBest : Vec3 → List ClipVertex → Best
-firstBest direction l = turns (λ (best : Best) (i : ℕ). firstTurn direction best i (at l i)) (none (Ieee.neg largest)) (length l)
+unfoldable pub firstBest : Float → Vec3 → List ClipVertex → Best
+firstBest far direction l = turns (λ (best : Best) (i : ℕ). firstTurn far direction best i (at l i)) (none (Ieee.neg largest)) (length l)
 
 unfoldable pub secondBest : Vec3 → Vec3 → List ClipVertex → Best
 secondBest normal a l = turns (λ (best : Best) (i : ℕ). betterPickOf best i (spreadOf normal a (at l i))) (none (float 0)) (length l)
@@ -56,30 +55,30 @@ thirdBest normal tolerance a b l =
 unfoldable pub fourthBest : Vec3 → Float → Triangle → List ClipVertex → Best
 fourthBest normal tolerance t l = turns (λ (best : Best) (i : ℕ). betterPickOf best i (outsideOf normal t (at l i .position))) (none tolerance) (length l)
 
--- ---- the picks: the index that each search finds, in the list as it then stands
+-- ---- the picks: the index that each search finds, in the list as it then stands; `far` is the speculative distance
 -- speculative * speculative
-abbrev pub tolerance : Float
-tolerance = speculative ⊗ speculative
+abbrev pub tolerance : Float → Float
+tolerance far = far ⊗ far
 
-unfoldable pub fourthPicks : Vec3 → ClipVertex → ClipVertex → ClipVertex → List ClipVertex → List ℕ
-fourthPicks normal v1 v2 v3 l =
-    let best = fourthBest normal tolerance (triangleOf normal (v1 .position) (v2 .position) (v3 .position)) l in
+unfoldable pub fourthPicks : Float → Vec3 → ClipVertex → ClipVertex → ClipVertex → List ClipVertex → List ℕ
+fourthPicks far normal v1 v2 v3 l =
+    let best = fourthBest normal (tolerance far) (triangleOf normal (v1 .position) (v2 .position) (v3 .position)) l in
     cond (best .found) (best .index ∷ []) []
 
-unfoldable pub thirdPicks : Vec3 → ClipVertex → ClipVertex → List ClipVertex → List ℕ
-thirdPicks normal v1 v2 l =
-    let best = thirdBest normal tolerance (v1 .position) (v2 .position) l in
-    cond (best .found) (best .index ∷ fourthPicks normal v1 v2 (at l (best .index)) (without pastVertex l (best .index))) []
+unfoldable pub thirdPicks : Float → Vec3 → ClipVertex → ClipVertex → List ClipVertex → List ℕ
+thirdPicks far normal v1 v2 l =
+    let best = thirdBest normal (tolerance far) (v1 .position) (v2 .position) l in
+    cond (best .found) (best .index ∷ fourthPicks far normal v1 v2 (at l (best .index)) (without pastVertex l (best .index))) []
 
-unfoldable pub secondPicks : Vec3 → ClipVertex → List ClipVertex → List ℕ
-secondPicks normal v1 l =
+unfoldable pub secondPicks : Float → Vec3 → ClipVertex → List ClipVertex → List ℕ
+secondPicks far normal v1 l =
     let best = secondBest normal (v1 .position) l in
-    cond (Ieee.lt (best .score) tolerance) [] (best .index ∷ thirdPicks normal v1 (at l (best .index)) (without pastVertex l (best .index)))
+    cond (Ieee.lt (best .score) (tolerance far)) [] (best .index ∷ thirdPicks far normal v1 (at l (best .index)) (without pastVertex l (best .index)))
 
-unfoldable pub firstPicks : Vec3 → Vec3 → List ClipVertex → List ℕ
-firstPicks direction normal l =
-    let best = firstBest direction l in
-    cond (best .found) (best .index ∷ secondPicks normal (at l (best .index)) (without pastVertex l (best .index))) []
+unfoldable pub firstPicks : Float → Vec3 → Vec3 → List ClipVertex → List ℕ
+firstPicks far direction normal l =
+    let best = firstBest far direction l in
+    cond (best .found) (best .index ∷ secondPicks far normal (at l (best .index)) (without pastVertex l (best .index))) []
 
 -- ---- the points: all, in order, of four or fewer; else what the picks take
 unfoldable pub allOrPicked : {A : Type 0} → A → List ℕ → List A → List A

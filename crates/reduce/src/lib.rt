@@ -3,12 +3,15 @@
 // it. What each point is, and which candidate, is in specs/Reduce.antt.
 pub mod places;
 
+ghost use mathlib.Core.Bool.{true};
 ghost use mathlib.Core.Path.{_≡_};
 ghost use Prim.Native.Nat.{_≤_, _<_};
+ghost use lib.Ieee.{binary32, lt, ofBits};
+ghost use Rattle.units.specs.Limits.{speculative};
 ghost use Rattle.manifold.specs.Records.{pastPoint};
 ghost use Rattle.manifold.specs.Polygons.{cornersOf};
 ghost use Rattle.reduce_points.specs.Points.{placed, contactOf};
-ghost use Rattle.reduce.specs.Reduce.{taken, firstPicks, pointsOf};
+ghost use Rattle.reduce.specs.Reduce.{taken, tolerance, firstPicks, pointsOf};
 use crate::places::first_turn;
 use crate::places::standing1;
 use crate::places::standing2;
@@ -29,17 +32,16 @@ use reduce_scores::first_three;
 use reduce_scores::outside;
 use reduce_scores::signed_area;
 use reduce_scores::spread;
+use units::speculative_distance;
 use vector::Vec3;
 use vector::arithmetic::sub;
 use vector::scalar::abs_float;
 
-// What a second pick must reach: the square of the speculative distance.
-const TOLERANCE: f32 = 0.02 * 0.02;
-
-// Up to four picks of more than four images: one function, so that the polygon is copied once.
-fn picked(images: Polygon, normal: Vec3, direction: Vec3) -> Contact
-    requires { ⌜ (images .count ≤ 64) × (4 < images .count) ⌝ }
-    ensures { λ r. ⌜ r ≡ contactOf normal (taken pastPoint (firstPicks direction normal (cornersOf images)) (placed (cornersOf images))) ⌝ }
+// Up to four picks of more than four images: one function, so that the polygon is copied once. A second pick must reach the square of the speculative
+// distance, which is `far`.
+fn picked(images: Polygon, normal: Vec3, direction: Vec3, far: f32) -> Contact
+    requires { ⌜ (images .count ≤ 64) × (4 < images .count) × (lt (ofBits binary32 0) (tolerance far) ≡ true) ⌝ }
+    ensures { λ r. ⌜ r ≡ contactOf normal (taken pastPoint (firstPicks far direction normal (cornersOf images)) (placed (cornersOf images))) ⌝ }
 {
     let n = images.count;
     // The first: farthest along `direction`.
@@ -51,7 +53,7 @@ fn picked(images: Polygon, normal: Vec3, direction: Vec3) -> Contact
     let mut i = 0;
     while i < n {
         let v = images.vertices[i];
-        first = first_turn(first, i, v, direction);
+        first = first_turn(far, first, i, v, direction);
         i += 1;
     }
     if !first.found {
@@ -75,7 +77,7 @@ fn picked(images: Polygon, normal: Vec3, direction: Vec3) -> Contact
         second = better(second, i2, spread(v, a, normal));
         i2 += 1;
     }
-    if second.score < TOLERANCE {
+    if second.score < far * far {
         return one_point(p1, normal);
     }
     let j2 = second.index;
@@ -89,7 +91,7 @@ fn picked(images: Polygon, normal: Vec3, direction: Vec3) -> Contact
     let mut third = Best {
         found: false,
         index: 0,
-        score: TOLERANCE,
+        score: far * far,
     };
     let mut i3 = 0;
     while i3 < left3 {
@@ -111,7 +113,7 @@ fn picked(images: Polygon, normal: Vec3, direction: Vec3) -> Contact
     let mut fourth = Best {
         found: false,
         index: 0,
-        score: TOLERANCE,
+        score: far * far,
     };
     let mut i4 = 0;
     while i4 < left4 {
@@ -130,12 +132,17 @@ fn picked(images: Polygon, normal: Vec3, direction: Vec3) -> Contact
 
 // At most four points of these images, each with its place: all of them, in order, where there are four or fewer. The first pick is the one farthest
 // along `direction`.
-pub fn reduce_manifold_points(images: Polygon, normal: Vec3, direction: Vec3) -> Contact
+pub fn reduce_manifold_points(
+    images: Polygon,
+    normal: Vec3,
+    direction: Vec3,
+    unit: usize,
+) -> Contact
     requires { ⌜ images .count ≤ 64 ⌝ }
-    ensures { λ r. ⌜ r ≡ contactOf normal (pointsOf (firstPicks direction normal (cornersOf images)) (cornersOf images)) ⌝ }
+    ensures { λ r. ⌜ r ≡ contactOf normal (pointsOf (firstPicks (speculative unit) direction normal (cornersOf images)) (cornersOf images)) ⌝ }
 {
     if images.count <= 4 {
         return all_points(images, normal);
     }
-    picked(images, normal, direction)
+    picked(images, normal, direction, speculative_distance(unit))
 }

@@ -5,7 +5,6 @@ ghost use Prim.Native.Nat.{_-_, _<_};
 ghost use Rattle.reduce_scores.specs.Scores.{firstTurn};
 ghost use Rattle.reduce.specs.Reduce.{standing};
 use manifold::ClipVertex;
-use manifold::limits::speculative_distance;
 use reduce_scores::Best;
 use reduce_scores::better;
 use reduce_scores::reach;
@@ -38,11 +37,11 @@ pub fn standing3(n: usize, j1: usize, j2: usize, j3: usize, i: usize) -> usize
     standing2(n, j1, j2, standing1(n - 2, j3, i))
 }
 
-// One candidate, for the first point: those beyond the speculative distance are passed over.
-pub fn first_turn(best: Best, i: usize, v: ClipVertex, direction: Vec3) -> Best
-    ensures { λ r. ⌜ r ≡ firstTurn direction best i v ⌝ }
+// One candidate, for the first point: those beyond `far`, the speculative distance, are passed over.
+pub fn first_turn(far: f32, best: Best, i: usize, v: ClipVertex, direction: Vec3) -> Best
+    ensures { λ r. ⌜ r ≡ firstTurn far direction best i v ⌝ }
 {
-    if v.separation > speculative_distance() {
+    if v.separation > far {
         return best;
     }
     better(best, i, reach(v, direction))

@@ -13,7 +13,6 @@ use Rattle.vector.specs.Scalar.{minOf}
 use Rattle.vector.specs.Arithmetic.{mulSubOf}
 use Rattle.manifold.specs.declared.ClipVertex.{ClipVertex}
 use Rattle.manifold.specs.Records.{pastVertex}
-use Rattle.manifold.specs.Limits.{speculative}
 use Rattle.manifold.specs.Polygons.{turns}
 
 -- the image of a candidate
@@ -28,6 +27,6 @@ largest = float 0x7f7f_ffff
 unfoldable pub leastSeparationOf : List ClipVertex → Float
 leastSeparationOf l = turns (λ (least : Float) (i : ℕ). minOf least (getD l i pastVertex .separation)) largest (length l)
 
--- fewer than 3 do not touch, and none at or above speculative do
-unfoldable pub touchingOf : ℕ → Float → Bool
-touchingOf count least = cond (ltb count 3) false (cond (Ieee.le speculative least) false true)
+-- fewer than 3 do not touch, and none at or above `far`, the speculative distance, do
+unfoldable pub touchingOf : Float → ℕ → Float → Bool
+touchingOf far count least = cond (ltb count 3) false (cond (Ieee.le far least) false true)

@@ -8,7 +8,6 @@ use Rattle.vector.specs.Rounded.{float, _⊕_, _⊗_}
 use Rattle.vector.specs.Scalar.{maxOf}
 use Rattle.vector.specs.Arithmetic.{subOf, dotOf, crossOf, mulSubOf, lengthSquaredOf}
 use Rattle.manifold.specs.declared.ClipVertex.{ClipVertex}
-use Rattle.manifold.specs.Limits.{speculative}
 use Rattle.reduce_scores.specs.declared.Best.{Best}
 use Rattle.reduce_scores.specs.declared.Triangle.{Triangle}
 
@@ -27,8 +26,9 @@ asGoodOf best i score = cond (Ieee.le (best .score) (bias ⊗ score)) (record { 
 unfoldable pub reachOf : Vec3 → ClipVertex → Float
 reachOf direction v = Ieee.neg (v .separation) ⊕ dotOf direction (v .position)
 
-unfoldable pub firstTurn : Vec3 → Best → ℕ → ClipVertex → Best
-firstTurn direction best i v = cond (Ieee.lt speculative (v .separation)) best (betterPickOf best i (reachOf direction v))
+-- a candidate strictly above `far`, the speculative distance, is passed over
+unfoldable pub firstTurn : Float → Vec3 → Best → ℕ → ClipVertex → Best
+firstTurn far direction best i v = cond (Ieee.lt far (v .separation)) best (betterPickOf best i (reachOf direction v))
 
 -- step 2, "farthest point in 2D": from a, across the normal
 unfoldable pub acrossOf : Vec3 → Vec3 → Vec3

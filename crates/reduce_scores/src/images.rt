@@ -6,7 +6,6 @@ ghost use Rattle.manifold.specs.Polygons.{cornersOf, polygonOf};
 ghost use Rattle.reduce_scores.specs.Images.{imageOf, leastSeparationOf, touchingOf};
 use manifold::ClipVertex;
 use manifold::Polygon;
-use manifold::limits::speculative_distance;
 use vector::Vec3;
 use vector::arithmetic::mul_sub;
 use vector::scalar::min_float;
@@ -59,14 +58,14 @@ pub fn least_separation(candidates: Polygon) -> f32
     least
 }
 
-// Whether candidates with this least separation touch: fewer than three do not, nor do any at or above the speculative distance.
-pub fn touching(count: usize, least: f32) -> bool
-    ensures { λ r. ⌜ r ≡ touchingOf count least ⌝ }
+// Whether candidates with this least separation touch: fewer than three do not, nor do any at or above the speculative distance, which is `far`.
+pub fn touching(far: f32, count: usize, least: f32) -> bool
+    ensures { λ r. ⌜ r ≡ touchingOf far count least ⌝ }
 {
     if count < 3 {
         return false;
     }
-    if least >= speculative_distance() {
+    if least >= far {
         return false;
     }
     true

@@ -1,2 +1,3 @@
 pub mod Rotation
 pub mod Bounded
+pub mod Within

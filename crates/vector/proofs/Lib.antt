@@ -1,2 +1,3 @@
 pub mod Farthest
 pub mod Bounded
+pub mod Within

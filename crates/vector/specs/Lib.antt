@@ -4,3 +4,4 @@ pub mod Arithmetic
 pub mod Shape
 pub mod Awaited
 pub mod Bounded
+pub mod Within

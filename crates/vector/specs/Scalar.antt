@@ -21,7 +21,3 @@ maxOf a b = cond (Ieee.lt b a) a b
 -- `a` where `a < b`, else `b`, of counts
 unfoldable pub minIntOf : ℕ → ℕ → ℕ
 minIntOf a b = cond (ltb a b) a b
-
--- 1
-unfoldable pub unitsPerMeter : Float
-unitsPerMeter = float 0x3f80_0000

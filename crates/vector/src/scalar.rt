@@ -1,6 +1,6 @@
 // Single numbers: size, lesser, greater.
 ghost use mathlib.Core.Path.{_≡_};
-ghost use Rattle.vector.specs.Scalar.{absOf, minOf, maxOf, minIntOf, unitsPerMeter};
+ghost use Rattle.vector.specs.Scalar.{absOf, minOf, maxOf, minIntOf};
 
 // -a where a is below zero, else a.
 pub fn abs_float(a: f32) -> f32
@@ -40,11 +40,4 @@ pub fn min_int(a: usize, b: usize) -> usize
         return a;
     }
     b
-}
-
-// One length unit per metre.
-pub fn get_length_units_per_meter() -> f32
-    ensures { λ r. ⌜ r ≡ unitsPerMeter ⌝ }
-{
-    1.0
 }

@@ -38,10 +38,11 @@ LIES(contact_quat, s, 12, 4);
 HOLDS(sizeof(contact_transform) == 28);
 LIES(contact_transform, p, 0, 12);
 LIES(contact_transform, q, 12, 16);
-HOLDS(sizeof(contact_size) == 24);
-LIES(contact_size, vertices, 0, 8);
-LIES(contact_size, half_edges, 8, 8);
-LIES(contact_size, faces, 16, 8);
+HOLDS(sizeof(contact_size) == 32);
+LIES(contact_size, unit, 0, 8);
+LIES(contact_size, vertices, 8, 8);
+LIES(contact_size, half_edges, 16, 8);
+LIES(contact_size, faces, 24, 8);
 HOLDS(sizeof(contact_cache) == 8);
 LIES(contact_cache, separation, 0, 4);
 LIES(contact_cache, kind, 4, 1);
@@ -123,6 +124,7 @@ typedef struct {
 
 /* Not so where the hull has no room here. */
 static int hull_taken(hull *to) {
+    to->size.unit = taken(2);
     to->size.vertices = taken(2);
     to->size.half_edges = taken(2);
     to->size.faces = taken(2);
@@ -277,10 +279,17 @@ static int all_are(const uint8_t *bytes, size_t count, uint8_t byte) {
     return 1;
 }
 
-enum { MOST_RULE = 9 };
+enum { MOST_RULE = 9, UNITS = 4, STATUSES = 8 };
+
+static const size_t units[UNITS] = {CONTACT_METRES, CONTACT_DECIMETRES, CONTACT_CENTIMETRES, CONTACT_MILLIMETRES};
+
+/* Those of a call, in the order in which they are given. */
+static const uint8_t statuses[STATUSES] = {
+    CONTACT_ACCEPTED, CONTACT_HULL_A, CONTACT_HULL_B, CONTACT_UNITS, CONTACT_TRANSFORM, CONTACT_CACHE, CONTACT_PADDING_WON, CONTACT_CUT_FULL};
 
 static struct {
-    long calls, points[CONTACT_MAX_POINTS + 1], statuses[9], rules[MOST_RULE + 1], others;
+    long calls, points[CONTACT_MAX_POINTS + 1], statuses[UINT8_MAX + 1], rules[MOST_RULE + 1], others;
+    long units[UNITS]; /* accepted calls with a capacity of 4 or more by the unit of both hulls */
     long retired_marked, retired_refused, retired_small; /* by what came of a retired type; small: a capacity below 4 */
     long edge_points, places_in_order, places_not_in_order; /* contacts by their places */
     long next[2][256]; /* accepted calls by the next cache: hit, kind */
@@ -328,6 +337,18 @@ static void hold_places(const contact_manifold *contact, uint8_t next_kind, long
     else met.places_not_in_order++;
 }
 
+/* Both hulls of an accepted call have one known unit. */
+static void hold_unit(long line) {
+    int i;
+    for (i = 0; i < UNITS; i++) {
+        if (a.size.unit == units[i] && b.size.unit == units[i]) {
+            met.units[i]++;
+            return;
+        }
+    }
+    stop("an accepted call without one known unit", line);
+}
+
 /* Both ways to answer the frame, held to its answer, with `untouched` in all that is not to be written; on large stacks or
    on those that the header states. */
 static void hold(const uint8_t *wanted, size_t wanted_len, uint8_t untouched, int large, long line) {
@@ -359,6 +380,8 @@ static void hold(const uint8_t *wanted, size_t wanted_len, uint8_t untouched, in
     if (capacity >= CONTACT_MAX_POINTS) {
         if ((outcome.status == CONTACT_HULL_A) != (rule_a != 0)) stop("refusal 1 and the rule of A", line);
         if ((outcome.status == CONTACT_HULL_B) != (rule_a == 0 && rule_b != 0)) stop("refusal 2 and the rule of B", line);
+        const int unlike = rule_a == 0 && rule_b == 0 && a.size.unit != b.size.unit;
+        if ((outcome.status == CONTACT_UNITS) != unlike) stop("refusal 17 and the units", line);
     }
     met.calls++;
     met.points[outcome.contact.count]++;
@@ -366,7 +389,10 @@ static void hold(const uint8_t *wanted, size_t wanted_len, uint8_t untouched, in
     if (rule_a > MOST_RULE || rule_b > MOST_RULE) stop("a rule that is none", line);
     met.rules[rule_a]++;
     met.rules[rule_b]++;
-    if (outcome.status == CONTACT_ACCEPTED && capacity >= CONTACT_MAX_POINTS) met.next[came.cache.hit & 1][came.cache.kind]++;
+    if (outcome.status == CONTACT_ACCEPTED && capacity >= CONTACT_MAX_POINTS) {
+        met.next[came.cache.hit & 1][came.cache.kind]++;
+        hold_unit(line);
+    }
 }
 
 /* ---- the files */
@@ -419,8 +445,10 @@ static void hold_file(const char *what, const char *frames_name, const char *ans
     printf("  %s: %ld calls through the header's records and %ld other frames, twice each;", what, met.calls / 2, met.others / 2);
     printf(" points 0 to 4:");
     for (i = 0; i <= CONTACT_MAX_POINTS; i++) printf(" %ld", met.points[i] / 2);
-    printf("; refusals 0 to 6:");
-    for (i = 0; i <= 6; i++) printf(" %ld", met.statuses[i] / 2);
+    printf("; refusals");
+    for (i = 0; i < STATUSES; i++) printf("%s %d: %ld", i ? "," : "", statuses[i], met.statuses[statuses[i]] / 2);
+    printf("; accepted with units");
+    for (i = 0; i < UNITS; i++) printf("%s %zu: %ld", i ? "," : "", units[i], met.units[i] / 2);
     printf("; rules 0 to %d:", MOST_RULE);
     for (i = 0; i <= MOST_RULE; i++) printf(" %ld", met.rules[i] / 2);
     printf("; retired kinds marked %ld, refused %ld, with a capacity below 4 %ld", met.retired_marked / 2, met.retired_refused / 2,
@@ -433,8 +461,11 @@ static void hold_file(const char *what, const char *frames_name, const char *ans
     most_stack("contact_first_broken_rule", met.judge_stack, CONTACT_COLLIDE_STACK);
     most_stack("contact_answer", met.answer_stack, CONTACT_ANSWER_STACK);
     for (i = 0; i <= CONTACT_MAX_POINTS; i++) points_met[i] += met.points[i];
-    for (i = 0; i <= 6; i++) {
-        if (!met.statuses[i]) stop("a refusal was never met", number);
+    for (i = 0; i < STATUSES; i++) {
+        if (!met.statuses[statuses[i]]) stop("a refusal was never met", number);
+    }
+    for (i = 0; i < UNITS; i++) {
+        if (!met.units[i]) stop("a unit was never met", number);
     }
     for (i = 0; i <= MOST_RULE; i++) {
         if (!met.rules[i]) stop("a rule was never met", number);
@@ -446,6 +477,25 @@ static void hold_file(const char *what, const char *frames_name, const char *ans
     if (!met.retired_marked || !met.retired_refused || !met.retired_small) stop("a way of a retired kind was never met", number);
 }
 
+/* The header's lengths by the unit have the bits that document 02 asks for. */
+static void hold_limits(void) {
+    static const uint32_t limits[UNITS][5] = {
+        {0x45800000, 0x46000000, 0x3a800000, 0x3ba3d70a, 0x3ca3d70a},
+        {0x47200000, 0x47a00000, 0x3c200000, 0x3d4ccccc, 0x3e4ccccc},
+        {0x48c80000, 0x49480000, 0x3dc80000, 0x3f000000, 0x40000000},
+        {0x4a7a0000, 0x4afa0000, 0x3f7a0000, 0x40a00000, 0x41a00000},
+    };
+    int i, j;
+    for (i = 0; i < UNITS; i++) {
+        const float own[5] = {
+            contact_farthest(units[i]), contact_farthest_offset(units[i]), contact_shortest_edge(units[i]), contact_slop(units[i]),
+            contact_speculative_distance(units[i])};
+        for (j = 0; j < 5; j++) {
+            if (memcmp(&own[j], &limits[i][j], sizeof own[j])) stop("a limit of a unit", 0);
+        }
+    }
+}
+
 int main(int count, char **words) {
     const size_t page = (size_t)sysconf(_SC_PAGESIZE);
     int i;
@@ -455,12 +505,13 @@ int main(int count, char **words) {
     }
     if (contact_abi() != CONTACT_ABI) stop("the library has another ABI than the header", 0);
     for (i = 0; i <= UINT8_MAX; i++) {
-        int given = i <= CONTACT_CUT_FULL || i == CONTACT_OWNER;
+        int given = i <= CONTACT_CUT_FULL || i == CONTACT_OWNER || i == CONTACT_UNITS;
         if ((contact_status_text((uint8_t)i) != NULL) != given) stop("words for a number that is never given, or none for one that is", 0);
         if ((contact_status_remedy((uint8_t)i) != NULL) != given) stop("a remedy for a number that is never given, or none for one that is", 0);
         if ((contact_rule_text((uint8_t)i) != NULL) != (i <= MOST_RULE)) stop("words for a rule that is none, or none for one that is", 0);
         if ((contact_rule_remedy((uint8_t)i) != NULL) != (i <= MOST_RULE)) stop("a remedy for a rule that is none, or none for one that is", 0);
     }
+    hold_limits();
     large_stack = stack_of(LARGE_STACK);
     collide_stack = stack_of(CONTACT_COLLIDE_STACK + page);
     answer_stack = stack_of(CONTACT_ANSWER_STACK + page);

@@ -1,8 +1,8 @@
-//! What a call is given, the refusals of document 01 that come before any work, and the comparison of two answers.
+//! What a call is given, the refusals of documents 01 and 02 that come before any work, and the comparison of two answers.
 
 use crate::same;
-use crate::shapes::Shape;
-use records::{Contact, HullLists, HullSize, Outcome, Point, SatCache, Transform, Vec3};
+use crate::shapes::{broken_rule, Shape};
+use records::{Contact, HullLists, HullSize, Outcome, Point, SatCache, Transform, Unit, Vec3};
 
 #[cfg(rust_text)]
 pub use text::Work;
@@ -57,6 +57,17 @@ impl Given {
         }
     }
 
+    /// The same with both hulls and B's place in this unit. They are in metres; a hull in any other unit, or in none, stays as it
+    /// is.
+    pub fn in_unit(mut self, unit: Unit) -> Given {
+        let Vec3 { x, y, z } = self.transform.p;
+        let [x, y, z] = [x, y, z].map(|part| part * unit.scale());
+        self.transform.p = Vec3 { x, y, z };
+        self.a = self.a.in_unit(unit);
+        self.b = self.b.in_unit(unit);
+        self
+    }
+
     pub fn call(&self) -> Call<'_> {
         Call {
             capacity: self.capacity,
@@ -69,7 +80,7 @@ impl Given {
 }
 
 impl Call<'_> {
-    /// The answer where no work is done: a capacity below 4, which comes first, or one of refusals 1 to 4.
+    /// The answer where no work is done: a capacity below 4, which comes first, or one of refusals 1, 2, 17, 3 and 4.
     pub fn without_work(&self) -> Option<Answer> {
         if self.capacity < 4 {
             return Some(empty(0, self.cache));
@@ -80,15 +91,17 @@ impl Call<'_> {
         }
     }
 
-    /// The first of refusals 1 to 4 that is given, 0 if none.
+    /// The first of refusals 1, 2, 17, 3 and 4 that is given, 0 if none: "17, units differ, after 2 and before 3".
     pub fn refusal(&self) -> u8 {
-        if !good(self.a) {
+        if broken_rule(self.a) != 0 {
             1
-        } else if !good(self.b) {
+        } else if broken_rule(self.b) != 0 {
             2
-        } else if !placed(self.transform) {
+        } else if self.a.size.unit != self.b.size.unit {
+            17
+        } else if !transform_accepted(self.a.size.unit, self.transform) {
             3
-        } else if !in_range(self.a.size, self.b.size, self.cache) {
+        } else if !cache_in_range(self.a.size, self.b.size, self.cache) {
             4
         } else {
             0
@@ -96,22 +109,14 @@ impl Call<'_> {
     }
 }
 
-fn good(hull: HullLists) -> bool {
-    let HullSize {
-        vertices,
-        half_edges,
-        faces,
-    } = hull.size;
-    validator::first_broken_rule(hull.numbers, hull.links, vertices, half_edges, faces) == 0
-}
-
-fn placed(Transform { p, q }: Transform) -> bool {
-    validator::transform_accepted([p.x, p.y, p.z], [q.v.x, q.v.y, q.v.z, q.s])
+/// Whether the transform is accepted between hulls of this unit.
+pub fn transform_accepted(unit: usize, Transform { p, q }: Transform) -> bool {
+    validator::transform_accepted(unit, [p.x, p.y, p.z], [q.v.x, q.v.y, q.v.z, q.s])
 }
 
 /// Not where "the cache's type is 2 and index_a >= F of A; 3 and index_b >= F of B; 4 and either index is odd or not
 /// below its hull's H".
-fn in_range(a: HullSize, b: HullSize, cache: SatCache) -> bool {
+pub fn cache_in_range(a: HullSize, b: HullSize, cache: SatCache) -> bool {
     let (index_a, index_b) = (usize::from(cache.index_a), usize::from(cache.index_b));
     match cache.kind {
         2 => index_a < a.faces,

@@ -10,6 +10,8 @@ pub mod settled;
 pub mod shapes;
 pub mod sorts;
 
+use records::Unit;
+
 /// Numbers that depend on the seed alone (SplitMix64).
 pub struct Numbers(u64);
 
@@ -48,6 +50,10 @@ impl Numbers {
     /// From -1 to 1.
     pub fn fraction(&mut self) -> f32 {
         (self.word() >> 40) as f32 / (1 << 23) as f32 - 1.0
+    }
+
+    pub fn unit(&mut self) -> Unit {
+        Unit::ALL[self.below(Unit::ALL.len())]
     }
 
     /// A float of any sort: a special value, any bits, or a number of one of four sizes.
@@ -98,10 +104,6 @@ pub const SPECIAL: [f32; 22] = [
     -4096.0,
     100000.0,
 ];
-
-/// Document 01's slop and speculative distance.
-pub const SLOP: f32 = f32::from_bits(0x3ba3_d70a);
-pub const SPECULATIVE: f32 = f32::from_bits(0x3ca3_d70a);
 
 /// Equal bit for bit, any NaN being equal to any other.
 pub fn same(a: f32, b: f32) -> bool {

@@ -5,6 +5,7 @@ use crate::shapes::solids::{block, flat, frame, pyramid, split_pyramid, Solid};
 use crate::shapes::{Link, Shape};
 use crate::{convert, inputs, Numbers};
 use oracle::math_functions::*;
+use records::Unit;
 use std::f32::consts::TAU;
 
 #[derive(Debug)]
@@ -12,6 +13,31 @@ pub struct Pair {
     pub a: Shape,
     pub b: Shape,
     pub transform: Transform,
+}
+
+impl Pair {
+    /// That of both hulls.
+    pub fn unit(&self) -> Unit {
+        self.a.unit()
+    }
+
+    /// The same pair, which is in metres, in this unit.
+    pub fn in_unit(self, unit: Unit) -> Pair {
+        self.measured(unit, unit.scale())
+    }
+
+    /// The same in this unit, with every length so many times as large.
+    pub fn measured(self, unit: Unit, by: f32) -> Pair {
+        let Transform { p, q } = self.transform;
+        Pair {
+            a: self.a.measured(unit, by),
+            b: self.b.measured(unit, by),
+            transform: Transform {
+                p: mul_sv(by, p),
+                q,
+            },
+        }
+    }
 }
 
 /// A polygon with both its sides, or a pyramid: with a ring of 65 to 125 corners.
@@ -110,6 +136,31 @@ pub fn placed(a: Shape, b: Shape, n: &mut Numbers) -> Pair {
     }
 }
 
+/// The block as A and the other on it, moved and turned about z, or the other way round.
+pub fn on_block(block: Shape, other: Shape, p: Vec3, angle: f32, n: &mut Numbers) -> Pair {
+    let axis = Vec3 {
+        x: 0.0,
+        y: 0.0,
+        z: 1.0,
+    };
+    let transform = Transform {
+        p,
+        q: spin(axis, angle),
+    };
+    if n.below(2) == 0 {
+        return Pair {
+            a: block,
+            b: other,
+            transform,
+        };
+    }
+    Pair {
+        a: other,
+        b: block,
+        transform: invert_transform(transform),
+    }
+}
+
 /// Any face, or one with the longest ring.
 fn any_face(shape: &Shape, n: &mut Numbers) -> usize {
     let any = n.below(shape.size.faces);
@@ -182,11 +233,11 @@ pub fn after(q: Quat, r: Quat) -> Quat {
     }
 }
 
-/// Moved and turned by at most so much.
-pub fn moved(t: Transform, by: f32, n: &mut Numbers) -> Transform {
+/// Moved by at most so many metres, in this unit, and turned by at most so many radians.
+pub fn moved(t: Transform, by: f32, unit: Unit, n: &mut Numbers) -> Transform {
     let [way, axis, _] = frame(n).map(|v| convert::vector(inputs::rounded(v)));
     Transform {
-        p: mul_add(t.p, by * n.fraction(), way),
+        p: mul_add(t.p, unit.scale() * by * n.fraction(), way),
         q: after(spin(axis, by * n.fraction()), t.q),
     }
 }

@@ -1,7 +1,7 @@
 //! Hulls: a solid's record in the project's layout, with whatever the record leaves open chosen at random.
 
 use crate::Numbers;
-use records::{HullLists, HullSize};
+use records::{HullLists, HullSize, Unit};
 use solids::Solid;
 use std::collections::HashMap;
 
@@ -9,7 +9,7 @@ pub mod breaks;
 pub mod kinds;
 pub mod solids;
 
-/// A hull as it is lent: two lists and three sizes.
+/// A hull as it is lent: two lists, its unit and three sizes.
 #[derive(Debug, Clone)]
 pub struct Shape {
     pub numbers: Vec<f32>,
@@ -53,18 +53,45 @@ impl Shape {
 
     /// The number of the first rule that it breaks by the second validator, 0 if none.
     pub fn broken_rule(&self) -> u8 {
-        let HullSize {
-            vertices,
-            half_edges,
-            faces,
-        } = self.size;
-        validator::first_broken_rule(&self.numbers, &self.links, vertices, half_edges, faces)
+        broken_rule(self.lent())
     }
 
-    /// Faces and vertices by their numbers in the solid; half-edges 2k and 2k+1 are twins, numbered as the loops meet
-    /// them; each ring from its loop's first corner; the first vertex in the padding.
+    /// Its unit; metres where it is none.
+    pub fn unit(&self) -> Unit {
+        self.size.known_unit().unwrap_or_default()
+    }
+
+    /// The same hull in this unit. It is one in metres; one in any other unit, or in none, stays as it is.
+    pub fn in_unit(self, unit: Unit) -> Shape {
+        self.measured(unit, unit.scale())
+    }
+
+    /// The same in this unit, with every length so many times as large.
+    pub fn measured(mut self, unit: Unit, by: f32) -> Shape {
+        if self.size.unit != Unit::Metres.per_metre() {
+            return self;
+        }
+        self.size.unit = unit.per_metre();
+        // Lists of other lengths than the sizes ask for have their planes elsewhere, and all of their numbers are taken.
+        let fits = self.size.numbers() == Some(self.numbers.len());
+        let planes = if fits {
+            self.plane(0)
+        } else {
+            self.numbers.len()
+        };
+        let (lengths, planes) = self.numbers.split_at_mut(planes);
+        let offsets = planes.iter_mut().skip(3).step_by(4);
+        for length in lengths.iter_mut().chain(offsets) {
+            *length *= by;
+        }
+        self
+    }
+
+    /// In metres. Faces and vertices by their numbers in the solid; half-edges 2k and 2k+1 are twins, numbered as the loops
+    /// meet them; each ring from its loop's first corner; the first vertex in the padding.
     pub fn new(solid: &Solid) -> Shape {
         let size = HullSize {
+            unit: Unit::Metres.per_metre(),
             vertices: solid.corners.len(),
             half_edges: solid.faces.iter().map(Vec::len).sum(),
             faces: solid.faces.len(),
@@ -129,6 +156,7 @@ impl Shape {
     pub fn joined(&self, other: &Shape) -> Shape {
         let (a, b) = (self.size, other.size);
         let mut both = Shape::of_zeros(HullSize {
+            unit: a.unit,
             vertices: a.vertices + b.vertices,
             half_edges: a.half_edges + b.half_edges,
             faces: a.faces + b.faces,
@@ -280,6 +308,17 @@ impl Shape {
     fn lanes(&self) -> usize {
         self.size.vertices.next_multiple_of(4)
     }
+}
+
+/// The number of the first rule that a hull breaks by the second validator, 0 if none.
+pub fn broken_rule(hull: HullLists) -> u8 {
+    let HullSize {
+        unit,
+        vertices,
+        half_edges,
+        faces,
+    } = hull.size;
+    validator::first_broken_rule(hull.numbers, hull.links, unit, vertices, half_edges, faces)
 }
 
 /// Each item with the one after it, the last with the first.

@@ -6,79 +6,102 @@ use crate::settled::Stack;
 use crate::shapes::kinds::{any_log, COMPACT, STRETCHED};
 use crate::shapes::solids::*;
 use crate::shapes::{Padding, Shape};
-use crate::{convert, Numbers, SPECULATIVE};
+use crate::{calls, convert, Numbers};
 use edits::{edge_at_tolerance, faces_at, loose_box, tilted};
 use oracle::math_functions::{neg, rotate_vector, sub, Quat, Transform, Vec3, VEC3_ZERO};
 use places::{
     about_origin, any_edges, anyhow, arm, edge_on_edge, facing_edge, near_tolerance, quarter_turn,
     stretched_turn, towards, Spin,
 };
+use records::Unit;
 
 pub mod edits;
 pub mod places;
 
-/// A name and a maker.
-pub type Sort = (&'static str, fn(&mut Numbers) -> Pair);
+/// A name and a maker of pairs in this unit.
+pub type Sort = (&'static str, fn(Unit, &mut Numbers) -> Pair);
 
-/// Made anew until the transform is an accepted one.
-pub fn acceptable(make: impl Fn(&mut Numbers) -> Pair, n: &mut Numbers) -> Pair {
+/// Made anew until the transform is an accepted one, and rounding in the unit has left every edge long enough.
+pub fn acceptable(make: impl Fn(Unit, &mut Numbers) -> Pair, unit: Unit, n: &mut Numbers) -> Pair {
     loop {
-        let pair = make(n);
-        let Transform { p, q } = pair.transform;
-        if validator::transform_accepted([p.x, p.y, p.z], [q.v.x, q.v.y, q.v.z, q.s]) {
+        let pair = make(unit, n);
+        let transform = convert::our_transform(pair.transform);
+        let good = [&pair.a, &pair.b].map(Shape::broken_rule) == [0; 2];
+        if good && calls::transform_accepted(pair.unit().per_metre(), transform) {
             return pair;
         }
     }
 }
 
+/// The power of two at or above the unit. Lengths that are so much larger keep what a comparison without a length in it
+/// comes to, to the last bit.
+fn power_of_two(unit: Unit) -> f32 {
+    unit.per_metre().next_power_of_two() as f32
+}
+
 pub const SORTS: [Sort; 13] = [
-    ("of every kind, laid or set on each other", |n| {
+    ("of every kind, laid or set on each other", |unit, n| {
         let (a, b) = (any_kind(n), any_kind(n));
-        stretched_turn(placed(a, b, n), n)
+        stretched_turn(placed(a, b, n), n).in_unit(unit)
     }),
-    ("of every kind, edge on edge", |n| {
+    ("of every kind, edge on edge", |unit, n| {
         let (a, b) = (any_kind(n), any_kind(n));
         let edges = any_edges(&a, &b, n);
-        stretched_turn(edge_on_edge(a, b, edges, Spin::Any, n), n)
+        stretched_turn(edge_on_edge(a, b, edges, Spin::Any, n), n).in_unit(unit)
     }),
-    ("of every kind, anyhow", |n| {
+    ("of every kind, anyhow", |unit, n| {
         let (a, b) = (any_kind(n), any_kind(n));
-        stretched_turn(anyhow(a, b, n), n)
+        stretched_turn(anyhow(a, b, n), n).in_unit(unit)
     }),
-    ("settled logs", |n| {
-        let stack = Stack::new(2, 1, n);
-        let pair = stack.pairs[0];
-        Pair {
-            a: stack.logs[pair.a].clone(),
-            b: stack.logs[pair.b].clone(),
-            transform: convert::transform(pair.transform),
-        }
+    ("settled logs", |unit, n| settled(n).in_unit(unit)),
+    ("alike, on a grid", |unit, n| {
+        on_grid(n).measured(unit, power_of_two(unit))
     }),
-    ("alike, on a grid", on_grid),
     ("at the speculative distance", at_speculative),
-    ("near-parallel edges", |n| {
+    ("near-parallel edges", |unit, n| {
         let (a, b) = (long(n), long(n));
         let (edges, crossing) = (any_edges(&a, &b, n), Spin::By(near_tolerance(n)));
-        edge_on_edge(a, b, edges, crossing, n)
+        edge_on_edge(a, b, edges, crossing, n).in_unit(unit)
     }),
-    ("normals at the tolerances", |n| {
+    ("normals at the tolerances", |unit, n| {
         let half = [0.25, 0.5, 1.0, 2.0, 8.0][n.below(5)];
-        let mut block = || tilted(Shape::any(&block([half; 3]), n), n);
+        let by = power_of_two(unit);
+        let mut block = || {
+            let block = Shape::any(&block([half; 3]), n).measured(unit, by);
+            tilted(block, n)
+        };
         let (a, b) = (block(), block());
-        about_origin(a, b, half as f32, n)
+        about_origin(a, b, by * half as f32, n)
     }),
-    ("faces at the tolerance to an edge", at_tolerance),
-    ("large, laid or set on each other", |n| {
+    ("faces at the tolerance to an edge", |unit, n| {
+        at_tolerance(n).measured(unit, power_of_two(unit))
+    }),
+    ("large, laid or set on each other", |unit, n| {
         let (a, b) = (large(n), large(n));
-        placed(a, b, n)
+        placed(a, b, n).in_unit(unit)
     }),
-    ("needles and plates far away", far_away),
-    ("padding that wins", |n| {
+    ("needles and plates far away", |unit, n| {
+        far_away(n).in_unit(unit)
+    }),
+    ("padding that wins", |unit, n| {
         let (a, b) = (padded(n), padded(n));
-        placed(a, b, n)
+        placed(a, b, n).in_unit(unit)
     }),
-    ("boxes larger than their hulls", in_large_boxes),
+    ("boxes larger than their hulls", |unit, n| {
+        in_large_boxes(n).in_unit(unit)
+    }),
 ];
+
+/// A pair of logs of a settled stack.
+pub fn settled(n: &mut Numbers) -> Pair {
+    let stack = Stack::new(2, 1, n);
+    let pair = stack.pairs[0];
+    Pair {
+        a: stack.logs[pair.a].clone(),
+        b: stack.logs[pair.b].clone(),
+        transform: convert::transform(pair.transform),
+    }
+}
 
 /// Any of the kinds, turned or not.
 pub fn any_kind(n: &mut Numbers) -> Shape {
@@ -117,7 +140,7 @@ fn on_grid(n: &mut Numbers) -> Pair {
 }
 
 /// Two blocks face to face, or two roofs edge to edge across each other: exactly so far apart, or a float more or less.
-fn at_speculative(n: &mut Numbers) -> Pair {
+fn at_speculative(unit: Unit, n: &mut Numbers) -> Pair {
     let (a, b) = if n.below(2) == 0 {
         let half = n.between(0.1, 2.0);
         let block = block([half; 3]);
@@ -128,16 +151,16 @@ fn at_speculative(n: &mut Numbers) -> Pair {
     } else {
         (roof(n), across(roof(n)))
     };
-    let near = [SPECULATIVE, SPECULATIVE.next_up(), SPECULATIVE.next_down()];
-    let aside = |n: &mut Numbers| [0.0, n.fraction() * 0.05][n.below(2)];
+    let near = about(unit.speculative_distance());
+    let aside = |n: &mut Numbers| [0.0, n.fraction() * 0.05 * unit.scale()][n.below(2)];
     let p = Vec3 {
         x: near[n.below(3)],
         y: aside(n),
         z: aside(n),
     };
     Pair {
-        a: Shape::any(&a, n),
-        b: Shape::any(&b, n),
+        a: Shape::any(&a, n).in_unit(unit),
+        b: Shape::any(&b, n).in_unit(unit),
         transform: Transform {
             p,
             q: Quat {
@@ -148,9 +171,14 @@ fn at_speculative(n: &mut Numbers) -> Pair {
     }
 }
 
+/// A number, and the floats above and below it.
+pub fn about(x: f32) -> [f32; 3] {
+    [x, x.next_up(), x.next_down()]
+}
+
 /// A ridge along z through the origin, the rest below it on x. The slopes' normals have x 0.75, whose square has an
 /// exact root.
-fn roof(n: &mut Numbers) -> Solid {
+pub fn roof(n: &mut Numbers) -> Solid {
     let low = n.between(0.5, 3.0);
     let wide = low * 0.75 / 0.4375f64.sqrt();
     frustum(
@@ -161,7 +189,7 @@ fn roof(n: &mut Numbers) -> Solid {
 }
 
 /// Turned so that x points the other way and z to y.
-fn across(mut solid: Solid) -> Solid {
+pub fn across(mut solid: Solid) -> Solid {
     for corner in &mut solid.corners {
         *corner = [-corner[0], corner[2], corner[1]];
     }

@@ -13,6 +13,7 @@ fn euler(shape: &Shape) -> i32 {
         vertices,
         half_edges,
         faces,
+        ..
     } = shape.size;
     (vertices + faces) as i32 - half_edges as i32 / 2
 }
@@ -57,6 +58,7 @@ fn a_square_ring() {
         vertices,
         half_edges,
         faces,
+        ..
     } = shape.size;
     assert_eq!((vertices, half_edges, faces), (16, 64, 16));
     assert_eq!((euler(&shape), shape.broken_rule()), (0, 9));
@@ -82,9 +84,11 @@ fn shells_break_the_ninth_rule() {
     }
 }
 
+/// In any unit.
 fn any_shape(n: &mut Numbers) -> Shape {
     let (_, solid) = COMPACT[n.below(COMPACT.len())];
-    Shape::any(&solid(n).placed(10.0, n), n)
+    let unit = n.unit();
+    Shape::any(&solid(n).placed(10.0, n), n).in_unit(unit)
 }
 
 #[test]

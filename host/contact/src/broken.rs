@@ -49,7 +49,11 @@ fn wrong_size(lists: HullLists) -> Option<String> {
         vertices,
         half_edges,
         faces,
+        ..
     } = lists.size;
+    if let Err(unknown) = lists.size.known_unit() {
+        return Some(unknown.to_string());
+    }
     if !(4..=128).contains(&vertices) {
         return Some(format!("there are {vertices} vertices, not 4 to 128"));
     }
@@ -122,6 +126,7 @@ impl<'a> Links<'a> {
             vertices,
             half_edges,
             faces,
+            ..
         } = self.lists.size;
         let of_vertices = self
             .of_vertices()
@@ -247,6 +252,7 @@ fn hole(size: HullSize) -> Option<String> {
         vertices,
         half_edges,
         faces,
+        ..
     } = size;
     let edges = half_edges / 2;
     let sum = vertices as isize - edges as isize + faces as isize;
@@ -271,6 +277,8 @@ fn wrong_number(lists: HullLists, links: Links) -> Option<String> {
     let HullSize {
         vertices, faces, ..
     } = lists.size;
+    let unit = lists.size.known_unit().ok()?;
+    let (symbol, farthest) = (unit.symbol(), unit.farthest());
     let lanes = vertices.next_multiple_of(4);
     let coordinate = |axis: usize, lane: usize| lists.numbers[6 + axis * lanes + lane];
     let axes = || AXES.into_iter().enumerate();
@@ -278,19 +286,23 @@ fn wrong_number(lists: HullLists, links: Links) -> Option<String> {
     for (axis, name) in axes() {
         for (end, place) in [("low", axis), ("high", 3 + axis)] {
             let x = lists.numbers[place];
-            if !within(x, 4096.0) {
-                return Some(format!("the box has {name} {end} = {x:?}, not within 4096"));
+            if !within(x, farthest) {
+                return Some(format!(
+                    "the box has {name} {end} = {x:?}, not within {farthest} {symbol}"
+                ));
             }
         }
         for lane in 0..lanes {
             let x = coordinate(axis, lane);
-            if !within(x, 4096.0) {
+            if !within(x, farthest) {
                 let what = if lane < vertices {
                     "vertex"
                 } else {
                     "padding lane"
                 };
-                return Some(format!("{what} {lane} has {name} = {x:?}, not within 4096"));
+                return Some(format!(
+                    "{what} {lane} has {name} = {x:?}, not within {farthest} {symbol}"
+                ));
             }
         }
     }
@@ -308,9 +320,10 @@ fn wrong_number(lists: HullLists, links: Links) -> Option<String> {
     for face in 0..faces {
         let plane = &lists.numbers[6 + 3 * lanes + 4 * face..][..4];
         let (x, y, z, offset) = (plane[0], plane[1], plane[2], plane[3]);
-        if !within(offset, 8192.0) {
+        let farthest = unit.farthest_offset();
+        if !within(offset, farthest) {
             return Some(format!(
-                "face {face} has offset {offset:?}, not within 8192"
+                "face {face} has offset {offset:?}, not within {farthest} {symbol}"
             ));
         }
         let squares = x * x + y * y + z * z;
@@ -320,12 +333,13 @@ fn wrong_number(lists: HullLists, links: Links) -> Option<String> {
             ));
         }
     }
+    let shortest = unit.shortest_edge();
     let short = links.edges().step_by(2).find(|&edge| {
         let (from, to) = (links.origin(edge), links.origin(edge + 1));
-        (0..3).all(|axis| (coordinate(axis, from) - coordinate(axis, to)).abs() < 1.0 / 1024.0)
+        (0..3).all(|axis| (coordinate(axis, from) - coordinate(axis, to)).abs() < shortest)
     })?;
     let (from, to) = (links.origin(short), links.origin(short + 1));
     Some(format!(
-        "half-edge {short}, from vertex {from} to vertex {to}, is shorter than 1/1024 on every axis"
+        "half-edge {short}, from vertex {from} to vertex {to}, is shorter than {shortest} {symbol} on every axis"
     ))
 }

@@ -4,7 +4,7 @@
 //! This is a convenience of the host and is NOT proved, but what it hands out has passed the library's proved
 //! validator, which does not ask that a hull is convex and its faces are flat: these are the builder's own tests.
 
-use crate::{Hull, HullSize};
+use crate::{Hull, HullSize, Unit};
 use std::f64::consts::TAU;
 use std::iter::repeat_n;
 
@@ -16,7 +16,7 @@ pub use error::{BuildError, Counted};
 
 use planes::{Bounded, Plane};
 
-/// How far a corner may lie from its face's plane, and a vertex outside another face, where
+/// How far a corner may lie from its face's plane, and a vertex outside another face, in metres, where
 /// [`HullBuilder::flat_within`] says nothing else: half a millimetre, a tenth of the contact slop.
 pub const FLAT_TOLERANCE: f32 = 0.0005;
 
@@ -55,23 +55,73 @@ pub const FLAT_TOLERANCE: f32 = 0.0005;
 #[derive(Debug, Clone)]
 #[must_use]
 pub struct HullBuilder {
+    unit: Unit,
     vertices: Vec<[f32; 3]>,
     rings: Vec<Vec<usize>>,
-    tolerance: f32,
+    /// Where it was given.
+    tolerance: Option<f32>,
 }
 
 impl HullBuilder {
-    /// Without vertices and faces.
+    /// Without vertices and faces, in metres.
     pub fn new() -> Self {
         HullBuilder {
+            unit: Unit::default(),
             vertices: Vec::new(),
             rings: Vec::new(),
-            tolerance: FLAT_TOLERANCE,
+            tolerance: None,
         }
     }
 
+    /// The unit of the hull, and so of every length that the builder is given before or after: metres where it is not called. The
+    /// limits go by it. Both hulls of a call have the same.
+    ///
+    /// ```
+    /// use contact::{HullBuilder, Unit};
+    ///
+    /// let board = HullBuilder::board(400.0, 20.0, 5.0).unit(Unit::Centimetres).build()?;
+    /// assert_eq!((board.unit(), board.size().unit), (Unit::Centimetres, 100));
+    ///
+    /// // In millimetres it is half a metre long, and 20 and 5 mm are no trouble: its edges may be as short as 0.9765625 mm.
+    /// assert!(HullBuilder::board(500.0, 20.0, 5.0).unit(Unit::Millimetres).build().is_ok());
+    /// let error = HullBuilder::board(500.0, 20.0, 0.5).unit(Unit::Millimetres).build().unwrap_err();
+    /// assert_eq!(
+    ///     error.to_string(),
+    ///     "the edge from vertex 0 to vertex 4 is too short: on no axis are its ends more than 0.5 mm apart, and 0.9765625 mm \
+    ///      is the least; join the two vertices"
+    /// );
+    /// # Ok::<(), contact::BuildError>(())
+    /// ```
+    pub fn unit(mut self, unit: Unit) -> Self {
+        self.unit = unit;
+        self
+    }
+
+    /// A board with its middle at the origin, so long along x, so wide along y and so thick along z, in the hull's unit.
+    ///
+    /// Vertex i lies at the high end of x, y or z where bit 0, 1 or 2 of i is set. The faces look along -x, +x, -y, +y, -z, +z.
+    pub fn board(length: f32, width: f32, thickness: f32) -> Self {
+        let half = [length, width, thickness].map(|side| side / 2.0);
+        let corner = |number: usize| {
+            [0, 1, 2].map(|axis| match number >> axis & 1 {
+                0 => -half[axis],
+                _ => half[axis],
+            })
+        };
+        let rings = [
+            [0, 4, 6, 2],
+            [1, 3, 7, 5],
+            [0, 1, 5, 4],
+            [2, 6, 7, 3],
+            [0, 2, 3, 1],
+            [4, 5, 7, 6],
+        ];
+        let corners = HullBuilder::new().vertices((0..8).map(corner));
+        rings.into_iter().fold(corners, HullBuilder::face)
+    }
+
     /// A log along x with its middle at the origin: regular polygons of so many corners at -length/2, the butt, and at
-    /// +length/2, the top. Radii and length are in metres; at most 42 sides fit into a hull.
+    /// +length/2, the top. Radii and length are in the hull's unit; at most 42 sides fit into a hull.
     ///
     /// The butt has the vertices from 0 and the top those from `sides`, each from the y axis towards the z axis, the first
     /// half a side beyond it: of 4, 8, 12 .. sides one looks along z and one against it. Face 0 is the butt, face 1 the
@@ -98,7 +148,7 @@ impl HullBuilder {
         })
     }
 
-    /// More vertices, in metres. They are numbered from 0 in their order, and go on where the last call ended.
+    /// More vertices, in the hull's unit. They are numbered from 0 in their order, and go on where the last call ended.
     pub fn vertices(mut self, vertices: impl IntoIterator<Item = [f32; 3]>) -> Self {
         self.vertices.extend(vertices);
         self
@@ -113,10 +163,10 @@ impl HullBuilder {
         self
     }
 
-    /// How far a corner may lie from its face's plane, and a vertex outside another face, in place of
+    /// How far a corner may lie from its face's plane, and a vertex outside another face, in the hull's unit and in place of
     /// [`FLAT_TOLERANCE`]. A hull that is no thicker than this has no volume. A number below zero and a NaN count as 0.
-    pub fn flat_within(mut self, metres: f32) -> Self {
-        self.tolerance = metres.max(0.0);
+    pub fn flat_within(mut self, length: f32) -> Self {
+        self.tolerance = Some(length.max(0.0));
         self
     }
 
@@ -138,14 +188,16 @@ impl HullBuilder {
     /// 5. each face is convex; the hull is convex;
     /// 6. the library's own rules, of which only H7 can still be broken: two fans meet at a vertex.
     pub fn build(&self) -> Result<OwnedHull, BuildError> {
-        let (vertices, rings) = (&self.vertices[..], &self.rings[..]);
-        coordinates_fit(vertices)?;
-        let size = links::size(vertices.len(), rings)?;
+        let (unit, vertices, rings) = (self.unit, &self.vertices[..], &self.rings[..]);
+        coordinates_fit(unit, vertices)?;
+        let size = links::size(unit, vertices.len(), rings)?;
         let links = links::list(size, rings)?;
-        links::edges_are_long_enough(vertices, rings)?;
-        let bounded = Bounded::new(vertices, rings)?;
-        bounded.check(self.tolerance)?;
+        links::edges_are_long_enough(unit, vertices, rings)?;
+        let bounded = Bounded::new(unit, vertices, rings)?;
+        let tolerance = self.tolerance.unwrap_or(FLAT_TOLERANCE * unit.scale());
+        bounded.check(tolerance)?;
         let hull = OwnedHull {
+            unit,
             size,
             numbers: numbers(vertices, bounded.planes()),
             links,
@@ -166,6 +218,7 @@ impl Default for HullBuilder {
 /// A hull that owns its lists. The library's validator has passed it, so no call refuses it by 1 or 2.
 #[derive(Debug, Clone)]
 pub struct OwnedHull {
+    unit: Unit,
     size: HullSize,
     numbers: Vec<f32>,
     links: Vec<u8>,
@@ -178,6 +231,12 @@ impl OwnedHull {
         Hull::lent(self.size, &self.numbers, &self.links)
     }
 
+    #[inline]
+    pub fn unit(&self) -> Unit {
+        self.unit
+    }
+
+    /// Its unit is here too.
     #[inline]
     pub fn size(&self) -> HullSize {
         self.size
@@ -194,15 +253,17 @@ impl OwnedHull {
     }
 }
 
-/// Each coordinate is finite and within 4096 m either way.
-fn coordinates_fit(vertices: &[[f32; 3]]) -> Result<(), BuildError> {
+/// Each coordinate is finite and within the unit's limit either way.
+fn coordinates_fit(unit: Unit, vertices: &[[f32; 3]]) -> Result<(), BuildError> {
+    let farthest = unit.farthest();
     for (vertex, point) in vertices.iter().enumerate() {
         for (axis, &value) in ['x', 'y', 'z'].into_iter().zip(point) {
-            if !(-4096.0..=4096.0).contains(&value) {
+            if !(-farthest..=farthest).contains(&value) {
                 return Err(BuildError::Coordinate {
                     vertex,
                     axis,
                     value,
+                    unit,
                 });
             }
         }

@@ -1,7 +1,7 @@
 //! A hull that is lent to the library, and which rule it breaks.
 
 use crate::{linked, Broken, Rule};
-use records::{HullLists, HullSize};
+use records::{HullLists, HullSize, Unit, UnknownUnit};
 use std::fmt;
 
 /// A hull that a call is lent. It borrows, so that one is made from wherever a simulator keeps its hulls, without a copy;
@@ -12,7 +12,7 @@ pub struct Hull<'a> {
 }
 
 impl<'a> Hull<'a> {
-    /// The hull, where both lists have the lengths that its sizes ask for. All else is judged by each call, which
+    /// The hull, where both lists have the lengths that its sizes ask for. All else, its unit too, is judged by each call, which
     /// refuses a hull that breaks a rule; [`Hull::check`] tells which.
     #[inline]
     pub fn new(size: HullSize, numbers: &'a [f32], links: &'a [u8]) -> Result<Self, HullError> {
@@ -49,10 +49,10 @@ impl<'a> Hull<'a> {
     /// ```
     /// use contact::{Hull, HullSize, Rule};
     ///
-    /// let size = HullSize { vertices: 4, half_edges: 12, faces: 4 };
+    /// let size = HullSize { unit: 1, vertices: 4, half_edges: 12, faces: 4 };
     /// let rule = Hull::lent(size, &[], &[]).check().unwrap_err();
     /// assert_eq!(rule, Rule::Sizes);
-    /// println!("{rule}"); // H1 is broken: a size is outside its limits .., and what to do about it
+    /// println!("{rule}"); // H1 is broken: the unit is not 1, 10, 100 or 1000, a size is outside .., and what to do about it
     /// ```
     #[inline]
     pub fn check(&self) -> Result<(), Rule> {
@@ -85,7 +85,7 @@ impl<'a> Hull<'a> {
     /// The same with the first place that breaks the rule, for people; none where the hull breaks no rule.
     ///
     /// ```
-    /// # let size = contact::HullSize { vertices: 4, half_edges: 13, faces: 4 };
+    /// # let size = contact::HullSize { unit: 1, vertices: 4, half_edges: 13, faces: 4 };
     /// let broken = contact::Hull::lent(size, &[], &[]).broken().unwrap();
     /// assert_eq!(broken.place, "there are 13 half-edges, not an even number from 12 to 256");
     /// ```
@@ -103,6 +103,12 @@ impl<'a> Hull<'a> {
     #[inline]
     pub fn size(&self) -> HullSize {
         self.lists.size
+    }
+
+    /// Its length unit, where it has a known one; a hull in any other breaks H1.
+    #[inline]
+    pub fn unit(&self) -> Result<Unit, UnknownUnit> {
+        self.lists.size.known_unit()
     }
 
     #[inline]

@@ -10,8 +10,9 @@
 //!
 //! # What a host must know
 //!
-//! - Units: metres. Everything that comes out is in A's frame, the normal from A to B; a separation is below zero where the
-//!   hulls overlap.
+//! - Units: a hull has one of four length units ([`Unit`], metres if nothing is said), and both hulls of a call have the same.
+//!   B's place and everything that comes out is in that unit and in A's frame, the normal from A to B; a separation is below
+//!   zero where the hulls overlap. Limits and tolerances go by the unit: [`Unit::farthest`] and those beside it.
 //! - Threads: the library has no state and allocates nothing; any number of threads may call it.
 //! - Stack: a call needs at most 24 KB of its thread's stack, [`answer`] 32 KB, beside what the thread needs itself.
 //! - Floating point: the default environment, round to nearest, no flush to zero, no denormals as zero. Nothing tests it,
@@ -26,11 +27,11 @@
 //!
 //! ```
 //! use contact::{
-//!     collide, CacheKind, Contact, Hull, HullSize, Quat, Refusal, SatCache, Transform, Vec3, UNUSED_PLACE,
+//!     collide, CacheKind, Contact, Hull, HullSize, Quat, Refusal, SatCache, Transform, Unit, Vec3, UNUSED_PLACE,
 //! };
 //!
-//! // A corner of a cube: four vertices, twelve half-edges, four faces.
-//! let size = HullSize { vertices: 4, half_edges: 12, faces: 4 };
+//! // A corner of a cube, in metres: four vertices, twelve half-edges, four faces.
+//! let size = HullSize { unit: Unit::Metres.into(), vertices: 4, half_edges: 12, faces: 4 };
 //! let s = 1.0 / 3f32.sqrt();
 //! #[rustfmt::skip]
 //! let numbers = [
@@ -133,11 +134,14 @@ impl fmt::Display for OtherLibrary {
 
 impl std::error::Error for OtherLibrary {}
 
-/// A refusal of a call; where it is one of a hull, with the rule that the hull breaks and the place.
+/// A refusal of a call; where it is one of a hull, with the rule that the hull breaks and the place. It prints as one sentence, in
+/// which lengths are told in the hulls' unit.
 #[derive(Debug, Clone, PartialEq, Eq)]
 pub struct Refused {
     pub refusal: Refusal,
     pub broken: Option<Broken>,
+    /// The units of hull A and hull B as they were lent, known or not.
+    pub units: [usize; 2],
 }
 
 impl Refused {
@@ -145,7 +149,7 @@ impl Refused {
     ///
     /// ```
     /// # use contact::*;
-    /// # let size = HullSize { vertices: 4, half_edges: 12, faces: 4 };
+    /// # let size = HullSize { unit: 1, vertices: 4, half_edges: 12, faces: 4 };
     /// # let place = Transform { p: Vec3::ZERO, q: Quat::IDENTITY };
     /// let (a, b) = (Hull::lent(size, &[], &[]), Hull::lent(size, &[], &[]));
     /// let outcome = collide(&a, &b, place, &mut SatCache::default());
@@ -160,29 +164,80 @@ impl Refused {
             Refusal::HullB => b.broken(),
             _ => None,
         };
-        Some(Refused { refusal, broken })
+        Some(Refused {
+            refusal,
+            broken,
+            units: [a, b].map(|hull| hull.size().unit),
+        })
+    }
+
+    /// What was refused, with the place in a hull, both units or the limit of the unit where the refusal is about these.
+    fn meaning(&self) -> String {
+        let meaning = self.refusal.meaning();
+        match (self.refusal, &self.broken) {
+            (_, Some(broken)) => format!("{meaning}: {broken}"),
+            (Refusal::Units, None) => {
+                let [a, b] = self.units.map(in_words);
+                format!("hull A is in {a} and hull B in {b}")
+            }
+            (Refusal::Transform, None) => match Unit::try_from(self.units[0]) {
+                Ok(unit) => {
+                    let limit = format!("{} {}", unit.farthest(), unit.symbol());
+                    meaning.replace("4096 * unit", &limit)
+                }
+                Err(_) => meaning.into(),
+            },
+            _ => meaning.into(),
+        }
+    }
+}
+
+/// The unit by its name.
+fn in_words(per_metre: usize) -> String {
+    match Unit::try_from(per_metre) {
+        Ok(unit) => unit.to_string(),
+        Err(_) => format!("a unit of {per_metre} per metre"),
     }
 }
 
 impl fmt::Display for Refused {
     fn fmt(&self, f: &mut fmt::Formatter) -> fmt::Result {
-        let Refused { refusal, broken } = self;
-        match broken {
-            None => refusal.fmt(f),
-            Some(broken) => write!(
-                f,
-                "refusal {}: {}: {broken}",
-                refusal.number(),
-                refusal.meaning()
-            ),
+        let (number, meaning) = (self.refusal.number(), self.meaning());
+        write!(f, "refusal {number}: {meaning}")?;
+        match self.broken {
+            // What to do is said of the rule.
+            Some(_) => Ok(()),
+            None => write!(f, "; what to do: {}", self.refusal.remedy()),
         }
     }
 }
 
 impl std::error::Error for Refused {}
 
-/// The contact of hull A and hull B, B placed in A's frame. The cache becomes the next one, where the call is accepted.
-/// Whether it had a retired type is told by [`Outcome::retired_type_read`].
+/// The contact of hull A and hull B, B placed in A's frame; both hulls, and so the transform and all that comes out, are in one
+/// unit, else the call is refused ([`Refusal::Units`]). The cache becomes the next one, where the call is accepted. Whether it had
+/// a retired type is told by [`Outcome::retired_type_read`].
+///
+/// ```
+/// # use contact::*;
+/// // Two boards, 4 m long, 20 cm wide and 5 cm thick, one on the other: in centimetres.
+/// let board = HullBuilder::board(400.0, 20.0, 5.0).unit(Unit::Centimetres).build()?;
+/// let on_top = |z| Transform { p: Vec3 { x: 0.0, y: 0.0, z }, q: Quat::IDENTITY };
+/// let mut cache = SatCache::EMPTY;
+/// let outcome = collide(&board.lend(), &board.lend(), on_top(6.0), &mut cache);
+/// assert_eq!(outcome.points().len(), 4); // 1 cm apart: nearer than 2 cm, the speculative distance
+/// assert_eq!(outcome.points()[0].separation, 1.0);
+///
+/// // A hull in metres does not go with it, and what is said names both units.
+/// let log = HullBuilder::log(12, 0.15, 0.12, 4.0).build()?;
+/// let (a, b) = (board.lend(), log.lend());
+/// let outcome = collide(&a, &b, on_top(6.0), &mut cache);
+/// let refused = Refused::of(&outcome, &a, &b).unwrap();
+/// assert_eq!(refused.refusal, Refusal::Units);
+/// let words = refused.to_string();
+/// assert!(words.starts_with("refusal 17: hull A is in centimetres and hull B in metres; what to do: "));
+/// # Ok::<(), BuildError>(())
+/// ```
 ///
 /// ```
 /// # use contact::*;

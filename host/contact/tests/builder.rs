@@ -24,12 +24,7 @@ fn builder(solid: &Solid) -> HullBuilder {
 
 /// The number of the first rule that the hull breaks by the second validator, 0 if none.
 fn broken_rule(hull: &OwnedHull) -> u8 {
-    let HullSize {
-        vertices,
-        half_edges,
-        faces,
-    } = hull.size();
-    validator::first_broken_rule(hull.numbers(), hull.links(), vertices, half_edges, faces)
+    cases::shapes::broken_rule(hull.lend().lists())
 }
 
 fn bits(numbers: &[f32]) -> Vec<u32> {
@@ -93,6 +88,15 @@ fn repeated(solid: &Solid) -> BuildError {
         again.map(|(_, &vertex)| BuildError::RepeatedVertex { face, vertex })
     };
     faces.find_map(twice).expect("a corner is named twice")
+}
+
+/// A board is a block of the cases.
+#[test]
+fn boards() {
+    let board = HullBuilder::board(400.0, 20.0, 5.0).unit(Unit::Centimetres);
+    let mut shape = Shape::new(&block([200.0, 10.0, 2.5]));
+    shape.size.unit = 100;
+    assert_same(&board.build().expect("a board"), &shape, "a board");
 }
 
 /// As they are made; near the origin, mostly turned; numbered anew; and 4000 m away.
@@ -196,6 +200,7 @@ fn logs() {
         vertices,
         half_edges,
         faces,
+        ..
     } = log.size();
     assert_eq!((vertices, half_edges, faces), (24, 72, 14));
 

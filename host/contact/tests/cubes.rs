@@ -7,6 +7,7 @@ use contact::*;
 
 /// V 8, H 24, F 6.
 const SIZE: HullSize = HullSize {
+    unit: 1,
     vertices: 8,
     half_edges: 24,
     faces: 6,
@@ -272,11 +273,84 @@ fn rules() {
     assert_eq!(refused.refusal, Refusal::HullB);
     assert_eq!(
         refused.to_string(),
-        "refusal 2: hull B breaks a rule: H8 is broken: face 5 has offset 8192.001, not within 8192; what to do: keep \
-         coordinates, padding and box within 4096, offsets within 8192, vertices in the box, edges above 1/1024"
+        "refusal 2: hull B breaks a rule: H8 is broken: face 5 has offset 8192.001, not within 8192 m; what to do: keep \
+         coordinates, padding, box within 4096 * unit, offsets within 8192 * unit, vertices in the box, edges from unit / \
+         1024 on"
     );
     let outcome = collide(&good.hull(), &good.hull(), at(2.0), &mut cache);
     assert_eq!(Refused::of(&outcome, &good.hull(), &good.hull()), None);
+}
+
+/// A cube in each unit, and two of unlike units.
+#[test]
+fn units() {
+    let cubes = Unit::ALL.map(|unit| Shape::new(&block([1.0; 3])).in_unit(unit));
+    let hulls = cubes.each_ref().map(|cube| Hull::from(cube.lent()));
+    for (unit, hull) in Unit::ALL.into_iter().zip(&hulls) {
+        let metre = unit.scale();
+        assert_eq!((hull.unit(), hull.check()), (Ok(unit), Ok(())));
+        let call = |x: f32, mut cache| {
+            let outcome = collide(hull, hull, at(x), &mut cache);
+            (outcome, cache)
+        };
+        let (apart, cache) = call(3.0 * metre, SatCache::EMPTY);
+        assert_eq!(apart.accepted(), Ok(Contact::EMPTY));
+        assert_eq!((cache.separation(), cache.kind), (metre, 2));
+        let (touching, cache) = call(2.0 * metre, SatCache::EMPTY);
+        assert_eq!((touching.points().len(), cache.separation()), (4, 0.0));
+        for point in touching.points() {
+            assert_eq!((point.position.x, point.separation), (metre, 0.0));
+        }
+        // The limit of positions, and what is said beyond it.
+        let far = unit.farthest();
+        let (accepted, _) = call(far, SatCache::EMPTY);
+        assert_eq!(accepted.accepted(), Ok(Contact::EMPTY));
+        let (beyond, _) = call(far.next_up(), SatCache::EMPTY);
+        let refused = Refused::of(&beyond, hull, hull).expect("it is too far");
+        assert_eq!(
+            refused.to_string(),
+            format!(
+                "refusal 3: the transform is not finite, farther than {far} {} on an axis, or no rotation; what to do: \
+                 give B's place in A's frame and unit, and normalize the quaternion every few steps",
+                unit.symbol()
+            )
+        );
+        // Unlike units are told before the transform and the cache are looked at, and the cache is kept.
+        for (other, b) in Unit::ALL.into_iter().zip(&hulls) {
+            let given = SatCache {
+                kind: 2,
+                index_a: 9,
+                ..SatCache::EMPTY
+            };
+            let mut cache = given;
+            let outcome = collide(hull, b, at(f32::NAN), &mut cache);
+            assert_eq!((outcome.contact, cache), (Contact::EMPTY, given));
+            let refused = Refused::of(&outcome, hull, b).expect("something is wrong");
+            if other == unit {
+                assert_eq!(refused.refusal, Refusal::Transform);
+                continue;
+            }
+            assert_eq!(outcome.accepted(), Err(Refusal::Units));
+            assert_eq!(refused.units, [unit.per_metre(), other.per_metre()]);
+            assert_eq!(
+                refused.to_string(),
+                format!(
+                    "refusal 17: hull A is in {unit} and hull B in {other}; what to do: bring both hulls to one unit: multiply \
+                     box, coordinates and offsets of one of them, and set its unit"
+                )
+            );
+        }
+    }
+    let mut unknown = Cube::new();
+    unknown.numbers[0] = -2.0;
+    let size = HullSize { unit: 25, ..SIZE };
+    let unknown = Hull::lent(size, &unknown.numbers, &unknown.links);
+    assert_eq!(unknown.unit(), Err(UnknownUnit { per_metre: 25 }));
+    let outcome = collide(&hulls[0], &unknown, at(2.0), &mut SatCache::default());
+    let refused = Refused::of(&outcome, &hulls[0], &unknown).expect("25 is no unit");
+    assert_eq!(refused.refusal, Refusal::HullB);
+    let words = "refusal 2: hull B breaks a rule: H1 is broken: the unit is 25 per metre, not 1, 10, 100 or 1000; what to do: ";
+    assert!(refused.to_string().starts_with(words), "{refused}");
 }
 
 /// A record of two boxes far apart, as a scanner wrote it: refused as A and as B.

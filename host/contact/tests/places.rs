@@ -41,7 +41,12 @@ fn every_rule_has_its_place() {
 #[test]
 fn places() {
     type Change = fn(&mut Shape);
-    let changes: [(Rule, Change, &str); 20] = [
+    let changes: [(Rule, Change, &str); 21] = [
+        (
+            Rule::Sizes,
+            |s| s.size.unit = 50,
+            "the unit is 50 per metre, not 1, 10, 100 or 1000",
+        ),
         (
             Rule::Sizes,
             |s| s.size.vertices = 3,
@@ -110,12 +115,12 @@ fn places() {
         (
             Rule::Numbers,
             |s| s.numbers[1] = f32::NAN,
-            "the box has y low = NaN, not within 4096",
+            "the box has y low = NaN, not within 4096 m",
         ),
         (
             Rule::Numbers,
             |s| s.numbers[6] = f32::INFINITY,
-            "vertex 0 has x = inf, not within 4096",
+            "vertex 0 has x = inf, not within 4096 m",
         ),
         (
             Rule::Numbers,
@@ -125,7 +130,7 @@ fn places() {
         (
             Rule::Numbers,
             |s| s.numbers[33] = -8192.001,
-            "face 0 has offset -8192.001, not within 8192",
+            "face 0 has offset -8192.001, not within 8192 m",
         ),
         (
             Rule::Numbers,
@@ -140,12 +145,12 @@ fn places() {
                 }
                 s.numbers[26] = 0.000_976_562_4;
             },
-            "half-edge 0, from vertex 0 to vertex 4, is shorter than 1/1024 on every axis",
+            "half-edge 0, from vertex 0 to vertex 4, is shorter than 0.0009765625 m on every axis",
         ),
         (
             Rule::Numbers,
             |s| s.numbers[0] = -4096.001,
-            "the box has x low = -4096.001, not within 4096",
+            "the box has x low = -4096.001, not within 4096 m",
         ),
     ];
     for (rule, change, words) in changes {
@@ -188,6 +193,7 @@ fn one_shell() {
         vertices,
         half_edges,
         faces,
+        ..
     } = long.size;
     assert_eq!((vertices, half_edges, faces), (12, 40, 10));
     assert_eq!(Hull::from(long.lent()).broken(), None);
@@ -222,6 +228,6 @@ fn padding() {
     shape.numbers[lane] = 5000.0;
     assert_eq!(
         place(&shape, Rule::Numbers),
-        "padding lane 7 has z = 5000.0, not within 4096"
+        "padding lane 7 has z = 5000.0, not within 4096 m"
     );
 }

@@ -12,11 +12,13 @@ pub const ROOT: u8 = 0x10;
 pub const FLIP: u8 = 0x11;
 pub const CALL: u8 = 0x12;
 
-/// Where a call's frame has its capacity, its cache, its transform, and its first hull.
+/// Where a call's frame has its capacity, its cache, its transform, and its first hull; a hull begins with its unit and its sizes,
+/// two bytes each.
 pub const CAPACITY: usize = 1;
 pub const CACHE: usize = 5;
 pub const TRANSFORM: usize = 13;
 pub const HULL_A: usize = 41;
+pub const UNIT_AND_SIZES: usize = 8;
 
 /// Where a call's answer has its status, its cache, how many points there are, its normal, its first point, the places of the
 /// points' candidates, and the mark that a retired type was read; and how many bytes a point and the whole have. Document 01's
@@ -164,9 +166,11 @@ impl Bytes<'_> {
     }
 
     /// "V, H, F (2 bytes each), box low and high, x, y, z lists, vertex edges, half-edges (next, twin, origin, face, a
-    /// byte each), face edges, planes".
+    /// byte each), face edges, planes"; and document 02, i: the unit "as two bytes before each hull's V". Lengths follow from V, H
+    /// and F alone.
     fn hull(&mut self) -> Option<Shape> {
         let size = HullSize {
+            unit: self.half()?,
             vertices: self.half()?,
             half_edges: self.half()?,
             faces: self.half()?,
@@ -195,7 +199,7 @@ pub fn flip_frame(pair: FeaturePair) -> Vec<u8> {
     frame
 }
 
-/// Sizes above 65,535 lose their high bits, and lists go as they are, fitting or not.
+/// Units and sizes above 65,535 lose their high bits, and lists go as they are, fitting or not.
 pub fn call_frame(call: &Call) -> Vec<u8> {
     let mut frame = vec![CALL];
     frame.extend(call.capacity.to_be_bytes());
@@ -209,7 +213,7 @@ pub fn call_frame(call: &Call) -> Vec<u8> {
 
 fn put_hull(to: &mut Vec<u8>, hull: HullLists) {
     let size = hull.size;
-    for count in [size.vertices, size.half_edges, size.faces] {
+    for count in [size.unit, size.vertices, size.half_edges, size.faces] {
         to.extend((count as u16).to_be_bytes());
     }
     let lists = 6 + 3 * usize::from(size.vertices as u16).next_multiple_of(4);

@@ -10,6 +10,8 @@ use cases::calls::Given;
 use records::SatCache;
 
 mod shells;
+#[cfg(rust_text)]
+mod units;
 
 /// What is answered to a line with its end, where it has one; none where nothing is printed.
 pub type Answers = fn(&[u8]) -> Option<Vec<u8>>;
@@ -94,7 +96,7 @@ fn point(number: usize) -> std::ops::Range<usize> {
     from..from + A_POINT
 }
 
-/// Those about H9 stand apart.
+/// Those about H9 and about units stand apart.
 const FAULTS: [(&str, Answers); 42] = [
     ("low byte first in a root", |line| {
         let mut answer = right(line)?;
@@ -351,7 +353,10 @@ const FAULTS: [(&str, Answers); 42] = [
 
 /// Every fault: its name, and the answers with it.
 pub fn all() -> impl Iterator<Item = (&'static str, Answers)> {
-    FAULTS.into_iter().chain(shells::FAULTS)
+    let all = FAULTS.into_iter().chain(shells::FAULTS);
+    #[cfg(rust_text)]
+    let all = all.chain(units::FAULTS);
+    all
 }
 
 /// The answers with the fault of this name.

@@ -3,6 +3,7 @@
 
 use crate::codec::{
     CACHE, CALL, CAPACITY, FLIP, HULL_A, LONGEST_ANSWER, RETIRED, ROOT, STATUS, TRANSFORM,
+    UNIT_AND_SIZES,
 };
 use crate::library::{Library, Room};
 use crate::sorts::Frames;
@@ -36,6 +37,8 @@ pub struct Fuzzed {
     /// Of the accepted ones.
     marked: u64,
     refused: u64,
+    /// Of the refused ones by 17.
+    unlike_units: u64,
     /// Into places that are too small.
     small: u64,
     /// Without an answer, since the Rust text would be needed.
@@ -165,12 +168,12 @@ impl Fuzz {
     }
 }
 
-/// A bit, a byte or a number of any sort, anywhere; or in the head of a call its capacity, its cache, its transform or the
-/// sizes of its first hull.
+/// A bit, a byte or a number of any sort, anywhere; or in the head of a call its capacity, its cache, its transform, or the
+/// unit or the sizes of its first hull.
 fn change(frame: &mut [u8], n: &mut Numbers) {
     let place = n.below(frame.len() + 1);
     let float = n.float().to_bits().to_be_bytes();
-    match n.below(9) {
+    match n.below(10) {
         0..=2 => {
             if let Some(byte) = frame.get_mut(place) {
                 *byte ^= 1 << n.below(8);
@@ -181,7 +184,12 @@ fn change(frame: &mut [u8], n: &mut Numbers) {
         5 => put(frame, CAPACITY, &(n.below(9) as i32 - 2).to_be_bytes()),
         6 => put(frame, CACHE + n.below(8), &[n.below(12) as u8]),
         7 => put(frame, TRANSFORM + 4 * n.below(7), &float),
-        _ => put(frame, HULL_A + n.below(6), &[n.below(130) as u8]),
+        8 => put(frame, HULL_A, &(n.unit().per_metre() as u16).to_be_bytes()),
+        _ => put(
+            frame,
+            HULL_A + n.below(UNIT_AND_SIZES),
+            &[n.below(130) as u8],
+        ),
     }
 }
 
@@ -214,7 +222,10 @@ impl Fuzzed {
                 self.marked += u64::from(answer[RETIRED]);
                 &mut self.accepted
             }
-            Some(_) => &mut self.refused,
+            Some(answer) => {
+                self.unlike_units += u64::from(answer[STATUS] == 17);
+                &mut self.refused
+            }
         };
         *count += 1;
     }
@@ -230,14 +241,15 @@ impl std::fmt::Display for Fuzzed {
             accepted,
             marked,
             refused,
+            unlike_units,
             small,
             untold,
         } = self;
         write!(
             f,
             "{rounds} rounds, {different} different; roots and pairs {roots_and_pairs}, calls accepted {accepted}, {marked} of \
-             them of a retired type, refused {refused}, faults {faults}, too little room {small}, without an answer to hold it \
-             to {untold}"
+             them of a retired type, refused {refused}, {unlike_units} of them for unlike units, faults {faults}, too little room \
+             {small}, without an answer to hold it to {untold}"
         )
     }
 }

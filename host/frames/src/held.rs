@@ -50,7 +50,7 @@ impl<'a> Held<'a> {
         frame: &Frame,
         wanted: Option<Vec<u8>>,
     ) -> Option<Vec<u8>> {
-        let sort = self.frames.sort_of(place.unit);
+        let sort = self.frames.sort_of(place.batch);
         self.mix.add(sort, frame, wanted.as_deref());
         self.sent += usize::from(wanted.is_some());
         wanted
@@ -80,15 +80,15 @@ impl<'a> Held<'a> {
 
     /// The frame, the answer that is wanted and the one that came.
     pub fn show(&self, place: Place, wanted: &[u8], came: Came) {
-        let frame = &self.frames.unit(place.unit)[place.number];
-        let name = self.frames.sorts()[self.frames.sort_of(place.unit)].name;
-        let Place { unit, number } = place;
+        let frame = &self.frames.batch(place.batch)[place.number];
+        let name = self.frames.sorts()[self.frames.sort_of(place.batch)].name;
+        let Place { batch, number } = place;
         let seed = self.frames.seed();
         let came = match came {
             Came::Bytes(bytes) => text(&hex::written(bytes)),
             Came::Line(line) => text(line),
         };
-        eprintln!("different: seed {seed}, unit {unit}, frame {number}, of the sort '{name}'");
+        eprintln!("different: seed {seed}, batch {batch}, frame {number}, of the sort '{name}'");
         eprintln!("  wanted {}", text(&hex::written(wanted)));
         eprintln!("  came   {came}");
         eprintln!("  frame  {}", text(&frame.line()));

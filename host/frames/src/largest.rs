@@ -9,7 +9,7 @@ use cases::shapes::breaks::{break_rule, RULES};
 use cases::shapes::kinds::{KindOfRadius, LARGEST, MOST_FACES, PYRAMIDS, SHELLS};
 use cases::shapes::{Padding, Shape};
 use cases::Numbers;
-use records::{HullSize, SatCache};
+use records::{HullSize, SatCache, Unit};
 
 const SEED: u64 = 1;
 
@@ -22,16 +22,17 @@ const OVERFULL: usize = 4;
 /// How many calls are looked through for one that is refused by 6.
 const TRIES: usize = 10_000;
 
-/// Every two kinds against each other, with cached axes, a retired type and caches carried from call to call; then each rule
-/// broken by A and by B, the transform's, a cache out of range, a small capacity; each kind that is not one shell; padding
-/// that may win the search, and cuts that put out too many corners.
+/// Every two kinds against each other in any unit, with cached axes, a retired type and caches carried from call to call; then
+/// each rule broken by A and by B, unlike units, the transform's rule broken, a cache out of range, a small capacity; each kind
+/// that is not one shell; padding that may win the search, and cuts that put out too many corners.
 pub fn frames() -> Vec<Frame> {
     let mut n = Numbers::new(SEED);
     let mut frames = Vec::new();
     for a in LARGEST {
         for b in LARGEST {
             for _ in 0..PAIRS {
-                let pair = any_pair([a, b], &mut n);
+                let unit = n.unit();
+                let pair = any_pair([a, b], &mut n).in_unit(unit);
                 frames.extend(on_pair(pair, &mut n));
             }
         }
@@ -66,8 +67,11 @@ fn refused(kind: KindOfRadius, n: &mut Numbers) -> Vec<Frame> {
             frames.push(frame(&given));
         }
     }
+    let mut unlike = good(n);
+    unlike.b = unlike.b.in_unit(Unit::Millimetres);
+    frames.push(frame(&unlike));
     let mut moved = good(n);
-    moved.transform = broken::transform(true, n);
+    moved.transform = broken::transform(true, Unit::Metres, n);
     let mut cached = good(n);
     cached.cache = caches::out_of_range(cached.a.size, cached.b.size, n);
     let mut small = good(n);
@@ -97,6 +101,7 @@ fn shells(n: &mut Numbers) -> Vec<Frame> {
 /// Lists of zeros, as long as a hull's with one vertex more than any may have.
 fn one_vertex_more() -> Shape {
     let size = HullSize {
+        unit: 1,
         vertices: 129,
         half_edges: 256,
         faces: 128,

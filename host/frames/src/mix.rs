@@ -1,4 +1,4 @@
-//! How often each sort, fault, refusal, rule, cache type, place and mark was met, and whether all that must be were.
+//! How often each sort, fault, refusal, rule, unit, cache type, place and mark was met, and whether all that must be were.
 
 use crate::codec::{
     self, Asked, Fault, CALL, COUNT, FLIP, HIT, NEXT_CACHE, RETIRED, ROOT, STATUS, TYPE,
@@ -10,9 +10,21 @@ use cases::calls::placed::Placed;
 use cases::met;
 use cases::shapes::breaks::RULES;
 use records::SatCache;
+use units::Units;
+
+mod units;
+
+/// How often what is about units must be met at the least.
+const LEAST_OF_UNITS: u64 = 20;
 
 /// Types that are told apart: 0 to 8, and all above together.
 const TYPES: usize = 10;
+
+/// By the number of a refusal, 0 where there is none.
+type Statuses = [u64; MOST_STATUS + 1];
+
+/// The highest number that a call is refused by.
+const MOST_STATUS: usize = 17;
 
 #[derive(Default)]
 pub struct Mix {
@@ -23,7 +35,8 @@ pub struct Mix {
     pairs: u64,
     faults: [u64; 5],
     /// Calls by their status.
-    statuses: [u64; 7],
+    statuses: Statuses,
+    units: Units,
     /// Refused hulls by the rule that is broken first.
     rules: [u64; RULES as usize + 1],
     /// Capacities below 4.
@@ -45,7 +58,7 @@ struct Retired {
     /// Not marked: capacities below 4, and refused ones, these by their status too.
     without_work: [u64; 3],
     refused: [u64; 3],
-    statuses: [u64; 7],
+    statuses: Statuses,
 }
 
 impl Retired {
@@ -71,17 +84,18 @@ impl Retired {
                 ("8", eight, least),
             ])
         };
-        let [_, a, b, transform, _, padding, cut] = self.statuses;
+        let of = |refusal: usize| self.statuses[refusal];
         println!("retired types");
         each("marked", self.marked, text)
             & each("capacity below 4, not marked", self.without_work, 1)
             & each("refused, not marked", self.refused, 1)
             & met(&[
-                ("refused by 1", a, 1),
-                ("2", b, 1),
-                ("3", transform, 1),
-                ("5", padding, text),
-                ("6", cut, text),
+                ("refused by 1", of(1), 1),
+                ("2", of(2), 1),
+                ("17", of(17), 1),
+                ("3", of(3), 1),
+                ("5", of(5), text),
+                ("6", of(6), text),
             ])
     }
 }
@@ -118,6 +132,7 @@ impl Mix {
         };
         let status = answer[STATUS];
         self.statuses[usize::from(status)] += 1;
+        self.units.add(&given, answer);
         let is_given = |&kind: &u8| kind == given.cache.kind;
         if let Some(which) = SatCache::RETIRED_TYPES.iter().position(is_given) {
             self.retired.add(which, answer);
@@ -151,7 +166,7 @@ impl Mix {
             .map(|(sort, &count)| (sort.name, count, if sort.only_lines { lines } else { 1 }))
             .collect();
         let [owner, not_hex, no_kind, length, too_long] = self.faults;
-        let [accepted, a, b, transform, cache, padding, cut] = self.statuses;
+        let of = |refusal: usize| self.statuses[refusal];
         let named = ["type 0", "1", "2", "3", "4", "5", "6", "7", "8", "9 to 255"];
         let types = |counts: &[u64; TYPES], least: [u64; TYPES]| {
             let all: [_; TYPES] = std::array::from_fn(|i| (named[i], counts[i], text * least[i]));
@@ -171,13 +186,14 @@ impl Mix {
             ("ff24", too_long, lines),
         ]);
         good &= met(&[
-            ("calls accepted", accepted, 1),
-            ("refused by 1", a, 1),
-            ("2", b, 1),
-            ("3", transform, 1),
-            ("4", cache, 1),
-            ("5", padding, text),
-            ("6", cut, text),
+            ("calls accepted", of(0), 1),
+            ("refused by 1", of(1), 1),
+            ("2", of(2), 1),
+            ("17", of(17), LEAST_OF_UNITS),
+            ("3", of(3), 1),
+            ("4", of(4), 1),
+            ("5", of(5), text),
+            ("6", of(6), text),
             ("capacity below 4", self.without_work, 1),
             ("left out for want of the text", self.untold, 0),
         ]);
@@ -194,6 +210,7 @@ impl Mix {
             ("H8", h8, 1),
             ("H9", h9, 1),
         ]);
+        good &= self.units.report(text);
         println!("caches of accepted calls");
         good &= types(&self.types, [1; TYPES]);
         println!("hits");

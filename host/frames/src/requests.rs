@@ -25,12 +25,13 @@ const NONE: [u8; 4] = [UNUSED_PLACE; 4];
 const IN_ORDER: [u8; 4] = [0, 1, 2, 3];
 
 /// By the letter of the request, in the order in which they landed.
-pub fn by_request() -> [(char, Vec<Example>); 4] {
+pub fn by_request() -> [(char, Vec<Example>); 5] {
     [
         ('k', finite_separations().into()),
         ('j', retired_types().into()),
         ('d', places().into()),
         ('c', shells().into()),
+        ('i', units().into()),
     ]
 }
 
@@ -519,6 +520,124 @@ fn numbered_anew() -> Shape {
     }
     cube.links[..8].copy_from_slice(&VERTEX_EDGES);
     cube
+}
+
+/// Request i: a hull carries its length unit, and the limits go by it.
+fn units() -> [Example; 10] {
+    let cube = |unit: usize| of_unit(&block([unit as f64; 3]), unit);
+    let beside = |by: f64| of_unit(&block([10.0; 3]).moved([by, 0.0, 0.0]), 10);
+    let at = |a: &Shape, b: &Shape, x: f32, cache| frame(4, a, b, [x, 0.0, 0.0], cache);
+    let alike = |unit, x| at(&cube(unit), &cube(unit), x, SatCache::EMPTY);
+    let touching = |separation| at(&beside(-10.0), &beside(10.0), 0.0, axis(2, separation));
+    let thin = |high| at(&plate(high), &cube(100), 300.0, SatCache::EMPTY);
+    let example = |words, frame, status, cache, count| Example {
+        words,
+        frame,
+        status,
+        cache,
+        count,
+        places: if count == 4 { IN_ORDER } else { NONE },
+        retired: 0,
+    };
+    let kept = SatCache {
+        hit: 7,
+        ..axis(2, 0x3f00_0000)
+    };
+    let no_unit = of_unit(&block([1.0; 3]), 2);
+    let hit = SatCache {
+        hit: 1,
+        ..axis(2, 0x3d4c_cccb)
+    };
+    [
+        example(
+            "i 1: cubes of half-size 100, unit 100, x = 300",
+            alike(100, 300.0),
+            0,
+            axis(2, 0x42c8_0000),
+            0,
+        ),
+        example(
+            "i 2: cubes of half-size 1000, unit 1000, x = 2015: within the speculative distance of 20",
+            alike(1000, 2015.0),
+            0,
+            axis(3, 0x4170_0000),
+            4,
+        ),
+        example(
+            "i 3: units 1 and 10, and the transform NaN: refused by 17, not by 3",
+            at(&cube(1), &cube(10), f32::NAN, kept),
+            17,
+            kept,
+            0,
+        ),
+        example(
+            "i 4: A of unit 2",
+            at(&no_unit, &cube(1), 2.0, SatCache::EMPTY),
+            1,
+            SatCache::EMPTY,
+            0,
+        ),
+        example(
+            "i 5: unit 10, position x = 40960",
+            alike(10, 40960.0),
+            0,
+            axis(2, 0x471f_ec00),
+            0,
+        ),
+        example(
+            "i 6: unit 10, position x one float further",
+            alike(10, 40960f32.next_up()),
+            3,
+            SatCache::EMPTY,
+            0,
+        ),
+        example(
+            "i 7: unit 10, touching, cached face A with a separation just below the slop: a hit",
+            touching(0x3d4c_cccb),
+            0,
+            hit,
+            4,
+        ),
+        example(
+            "i 8: the same with the slop itself: no hit",
+            touching(0x3d4c_cccc),
+            0,
+            axis(3, 0x8000_0000),
+            4,
+        ),
+        example(
+            "i 9: unit 100, A's edges along z just 100/1024 long",
+            thin(100.0 / 1024.0),
+            0,
+            axis(2, 0x42c8_0000),
+            0,
+        ),
+        example(
+            "i 10: the same one float shorter",
+            thin((100.0 / 1024.0f32).next_down()),
+            1,
+            SatCache::EMPTY,
+            0,
+        ),
+    ]
+}
+
+/// The solid's hull, whose lengths are in a unit of this number, known or not.
+fn of_unit(solid: &Solid, unit: usize) -> Shape {
+    let mut hull = planed(solid);
+    hull.size.unit = unit;
+    hull
+}
+
+/// A cube of half-size 100 in unit 100 whose corners lie at z = 0 and at this z. Its planes stay where they were.
+fn plate(high: f32) -> Shape {
+    let mut plate = of_unit(&block([100.0; 3]), 100);
+    for corner in 0..8 {
+        let place = plate.coordinate(2, corner);
+        plate.numbers[place] = [0.0, high][corner / 4];
+    }
+    plate.fit_box();
+    plate
 }
 
 /// The solid's hull, its planes worked out from the corners as they are before they are rounded.

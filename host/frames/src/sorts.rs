@@ -1,12 +1,14 @@
-//! Frames of every sort. They come in units: unit `u` of a seed depends on these two numbers alone, so that any frame of
-//! a run can be made again. The sorts take turns.
+//! Frames of every sort. They come in batches: batch `b` of a seed depends on these two numbers alone, so that any frame of
+//! a run can be made again. The sorts take turns. The hulls of a batch have one length unit, but where a sort is about units.
 
+use crate::codec::{self, call_frame, Asked};
 use crate::Frame;
 use cases::pairs::{long_rings, Pair};
 use cases::shapes::kinds::{Kind, COMPACT, STRETCHED};
 use cases::shapes::solids::Solid;
 use cases::sorts::{acceptable, SORTS};
 use cases::Numbers;
+use records::Unit;
 
 mod broken;
 pub(crate) mod calls;
@@ -15,19 +17,25 @@ mod lines;
 pub mod marked;
 pub(crate) mod shells;
 mod small;
+pub(crate) mod units;
 
-/// How many turns of its own a sort has in a unit.
+/// How many turns of its own a sort has in a batch.
 const TURNS: usize = 4;
 
-/// What makes a unit of frames.
+/// What makes a batch of frames.
 #[derive(Clone, Copy)]
 enum Make {
-    /// From how many turns the sort had before.
+    /// From how many turns the sort had before; in metres.
     Frames(fn(usize, &mut Numbers) -> Vec<Frame>),
-    /// Calls on a pair of hulls.
-    Calls(fn(&mut Numbers) -> Pair),
+    /// The same with units of the sort's own choice.
+    Units(fn(usize, &mut Numbers) -> Vec<Frame>),
+    /// Calls on a pair of hulls in this unit.
+    Calls(fn(Unit, &mut Numbers) -> Pair),
     /// Calls on a hull of a kind that is laid or set on any other, or the other on it.
     Kind(fn(&mut Numbers) -> Solid),
+    /// Calls on a pair of settled logs, each with the cache of the one before.
+    #[cfg(rust_text)]
+    Carried,
 }
 
 /// A name and a maker.
@@ -38,7 +46,8 @@ pub struct Sort {
     make: Make,
 }
 
-type Named = (&'static str, fn(usize, &mut Numbers) -> Vec<Frame>);
+/// A name and a maker of frames from how many turns the sort had before.
+pub(crate) type Named = (&'static str, fn(usize, &mut Numbers) -> Vec<Frame>);
 
 const LINES: [Named; 3] = [
     ("odd lengths", lines::odd),
@@ -73,13 +82,10 @@ pub(crate) const NOT_ONE_SHELL: [Named; 3] = [
     ("near those that are not one shell", shells::near),
 ];
 
-#[cfg(rust_text)]
-const CARRIED: [Named; 1] = [("settled logs, caches carried", calls::settled)];
-
-/// One frame of a seed: the unit, and its number in it.
+/// One frame of a seed: the batch, and its number in it.
 #[derive(Debug, Clone, Copy, PartialEq, Eq)]
 pub struct Place {
-    pub unit: usize,
+    pub batch: usize,
     pub number: usize,
 }
 
@@ -89,10 +95,21 @@ pub struct Frames {
     sorts: Vec<Sort>,
     /// How many of the sorts are the first ones: those that came later leave their frames as they were.
     first: usize,
+    /// Whether the batches of all sorts have any unit; else only those of the sorts about units have another than metres.
+    any_unit: bool,
 }
 
 impl Frames {
+    /// In every unit.
     pub fn new(seed: u64) -> Frames {
+        Frames {
+            any_unit: true,
+            ..Frames::in_metres(seed)
+        }
+    }
+
+    /// In metres but for the sorts about units, so that the others have the frames that they had before there were units.
+    pub fn in_metres(seed: u64) -> Frames {
         let sort = |name, make, only_lines| Sort {
             name,
             only_lines,
@@ -110,14 +127,20 @@ impl Frames {
         sorts.extend(SORTS.map(of_pairs));
         #[cfg(rust_text)]
         {
-            sorts.extend(CARRIED.map(named));
+            sorts.push(sort("settled logs, caches carried", Make::Carried, false));
             sorts.extend(cases::calls::more::MORE.map(of_pairs));
         }
         let first = sorts.len();
         #[cfg(rust_text)]
         sorts.extend([cases::calls::more::BANDS].map(of_pairs));
         sorts.extend(NOT_ONE_SHELL.map(named));
-        Frames { seed, sorts, first }
+        sorts.extend(units::SORTS.map(|(name, make)| sort(name, Make::Units(make), false)));
+        Frames {
+            seed,
+            sorts,
+            first,
+            any_unit: false,
+        }
     }
 
     pub fn seed(&self) -> u64 {
@@ -128,21 +151,21 @@ impl Frames {
         &self.sorts
     }
 
-    /// All of them, one unit after another, without an end.
+    /// All of them, one batch after another, without an end.
     pub fn iter(&self) -> impl Iterator<Item = (Place, Frame)> + '_ {
-        let of_unit = |unit| {
-            let frames = self.unit(unit).into_iter().enumerate();
-            frames.map(move |(number, frame)| (Place { unit, number }, frame))
+        let of_batch = |batch| {
+            let frames = self.batch(batch).into_iter().enumerate();
+            frames.map(move |(number, frame)| (Place { batch, number }, frame))
         };
-        (0..).flat_map(of_unit)
+        (0..).flat_map(of_batch)
     }
 
-    /// The place of the unit's sort in the list.
-    pub fn sort_of(&self, unit: usize) -> usize {
-        unit % self.sorts.len()
+    /// The place of the batch's sort in the list.
+    pub fn sort_of(&self, batch: usize) -> usize {
+        batch % self.sorts.len()
     }
 
-    /// Where a unit's numbers begin. The units of the first sorts are counted from below as if there were no others, those
+    /// Where a batch's numbers begin. The batches of the first sorts are counted from below as if there were no others, those
     /// of each later sort on their own from above.
     fn beginning(&self, round: usize, sort: usize) -> u64 {
         match sort.checked_sub(self.first) {
@@ -151,22 +174,47 @@ impl Frames {
         }
     }
 
-    /// The frames of a unit, one or more.
-    pub fn unit(&self, unit: usize) -> Vec<Frame> {
+    /// The frames of a batch, one or more.
+    pub fn batch(&self, batch: usize) -> Vec<Frame> {
         let base = Numbers::new(self.seed).word();
-        let (round, sort) = (unit / self.sorts.len(), self.sort_of(unit));
-        let mut numbers = Numbers::new(base.wrapping_add(self.beginning(round, sort)));
+        let (round, sort) = (batch / self.sorts.len(), self.sort_of(batch));
+        let start = base.wrapping_add(self.beginning(round, sort));
+        let unit = self.unit_from(start);
+        let mut numbers = Numbers::new(start);
         let n = &mut numbers;
+        let turns = TURNS * round..TURNS * (round + 1);
         match self.sorts[sort].make {
             Make::Frames(make) => {
-                let turns = TURNS * round..TURNS * (round + 1);
-                turns.flat_map(|turn| make(turn, n)).collect()
+                let frames = turns.flat_map(|turn| make(turn, n));
+                frames.map(|frame| in_unit(frame, unit)).collect()
             }
-            Make::Calls(make) => calls::on_pair(acceptable(make, n), n),
+            Make::Units(make) => turns.flat_map(|turn| make(turn, n)).collect(),
+            Make::Calls(make) => calls::on_pair(acceptable(make, unit, n), n),
             Make::Kind(make) => {
-                let pair = acceptable(|n| calls::pair_of_kind(round, make, n), n);
-                calls::on_pair(pair, n)
+                let of_kind = |unit, n: &mut _| calls::pair_of_kind(round, make, n).in_unit(unit);
+                calls::on_pair(acceptable(of_kind, unit, n), n)
             }
+            #[cfg(rust_text)]
+            Make::Carried => turns.flat_map(|_| calls::settled(unit, n)).collect(),
         }
+    }
+
+    /// The unit of a batch whose numbers begin here; it takes none of them.
+    fn unit_from(&self, start: u64) -> Unit {
+        if self.any_unit {
+            Numbers::new(start.rotate_left(32)).unit()
+        } else {
+            Unit::Metres
+        }
+    }
+}
+
+/// A call's frame with both hulls and B's place in this unit; any other stays.
+fn in_unit(frame: Frame, unit: Unit) -> Frame {
+    match frame.bytes().map(codec::decode) {
+        Some(Ok(Asked::Call(given))) if unit != Unit::Metres => {
+            Frame::Bytes(call_frame(&given.in_unit(unit).call()))
+        }
+        _ => frame,
     }
 }

@@ -1,18 +1,21 @@
 //! The frames that are stored with the program, so that it can be held to their answers with no Rust at hand. A frame that is
-//! stored stays, in its order; behind them come those that lack: document 01's own, each kind that is not one shell, of each
-//! other sort those that meet something new, by their places too, and document 02's examples.
+//! stored stays, in its order; behind them come those that lack: document 01's own, each kind that is not one shell, each case
+//! about units, of each other sort those that meet something new, by their places too, document 02's examples, and what then lacks
+//! of each unit.
 
 use crate::codec::{self, Asked, CALL, COUNT, HIT, NEXT_CACHE, PLACES, STATUS, TYPE};
-use crate::sorts::{marked, shells, Frames, NOT_ONE_SHELL};
+use crate::sorts::{marked, shells, units, Frames, Named, NOT_ONE_SHELL};
 use crate::{hex, requests, wanted, Frame, LONGEST_LINE};
 use cases::calls::Given;
+use records::Unit;
 use std::collections::{HashMap, HashSet};
 
 const SEED: u64 = 1;
 
-/// How often each sort is looked through, and how many frames of it are stored whatever they meet: of long ones and of
-/// short ones.
+/// How often each sort is looked through, and in every unit once more; and how many frames of it are stored whatever they meet: of
+/// long ones and of short ones.
 const ROUNDS: usize = 68;
+const UNIT_ROUNDS: usize = 8;
 const LONG_OF_A_SORT: usize = 3;
 const SHORT_OF_A_SORT: usize = 24;
 const SHORT: usize = 300;
@@ -27,17 +30,24 @@ const LEFT_OUT: &str = "near-parallel edges";
 pub fn files(stored: &[u8]) -> (Vec<u8>, Vec<u8>) {
     let mut lines = Lines::of(stored);
     lines.add_all(&marked::all());
-    let all = Frames::new(SEED);
-    for ((name, _), turns) in NOT_ONE_SHELL.into_iter().zip(shells::TURNS) {
+    let all = Frames::in_metres(SEED);
+    for ((name, _), turns) in by_turns() {
         lines.add_all(&shortest_of_turns(&all, name, turns));
     }
     lines.add_of_sorts(&all);
     let examples = requests::all().into_iter();
     let examples: Vec<Frame> = examples.map(|e| Frame::Bytes(e.frame)).collect();
     lines.add_all(&examples);
+    lines.add_of_units(&Frames::new(SEED));
     let input = lines.input();
     let output = wanted::to_input(&input).expect("the Rust text is at hand");
     (input, output)
+}
+
+/// The sorts of which the shortest frame of each turn is stored, and after how many turns they go round.
+fn by_turns() -> impl Iterator<Item = (Named, usize)> {
+    let shells = NOT_ONE_SHELL.into_iter().zip(shells::TURNS);
+    shells.chain(units::SORTS.into_iter().zip(units::CASES))
 }
 
 /// A frame that has an answer, so that a last line which is lost is seen.
@@ -85,12 +95,12 @@ impl Lines {
             placings.extend(placing(line, &answer));
         }
         let mut sorts: HashMap<&str, usize> = HashMap::new();
-        for unit in 0..ROUNDS * all.sorts().len() {
-            let name = all.sorts()[all.sort_of(unit)].name;
-            if name == LEFT_OUT || NOT_ONE_SHELL.iter().any(|&(own, _)| own == name) {
+        for batch in 0..ROUNDS * all.sorts().len() {
+            let name = all.sorts()[all.sort_of(batch)].name;
+            if name == LEFT_OUT || by_turns().any(|((own, _), _)| own == name) {
                 continue;
             }
-            for frame in all.unit(unit) {
+            for frame in all.batch(batch) {
                 let line = frame.line();
                 let answer = answer(&line);
                 if !short_enough(&line, &answer) {
@@ -113,6 +123,25 @@ impl Lines {
         }
     }
 
+    /// Of the frames in every unit those that meet in theirs what was not met in it.
+    fn add_of_units(&mut self, all: &Frames) {
+        let met = |line: &Vec<u8>| in_unit(line, &answer(line));
+        let mut met: HashSet<[u8; 4]> = self.list.iter().filter_map(met).collect();
+        for batch in 0..UNIT_ROUNDS * all.sorts().len() {
+            if all.sorts()[all.sort_of(batch)].name == LEFT_OUT {
+                continue;
+            }
+            for frame in all.batch(batch) {
+                let line = frame.line();
+                let answer = answer(&line);
+                let way = in_unit(&line, &answer).filter(|_| short_enough(&line, &answer));
+                if way.is_some_and(|way| met.insert(way)) {
+                    self.add(&line);
+                }
+            }
+        }
+    }
+
     fn input(mut self) -> Vec<u8> {
         self.list.push(last_line());
         self.list.join(&b'\n')
@@ -126,8 +155,8 @@ fn shortest_of_turns(all: &Frames, name: &str, turns: usize) -> Vec<Frame> {
         .iter()
         .position(|sort| sort.name == name)
         .expect("a sort");
-    let units = (0..ROUNDS).map(|round| round * sorts.len() + sort);
-    let frames: Vec<Frame> = units.flat_map(|unit| all.unit(unit)).collect();
+    let batches = (0..ROUNDS).map(|round| round * sorts.len() + sort);
+    let frames: Vec<Frame> = batches.flat_map(|batch| all.batch(batch)).collect();
     let of_turn = |turn| {
         frames
             .iter()
@@ -173,6 +202,20 @@ fn placing(line: &[u8], answer: &[u8]) -> Option<[u8; 5]> {
         reduced.into(),
         in_order.into(),
     ])
+}
+
+/// What an accepted call that does some work meets in its unit: whether the axis that it leaves is none, a face or a pair of edges,
+/// whether there are points, and the hit.
+fn in_unit(line: &[u8], answer: &[u8]) -> Option<[u8; 4]> {
+    if answer[0] != CALL + 0x80 || answer[STATUS] != 0 {
+        return None;
+    }
+    let given = given(line);
+    let unit = Unit::ALL.iter().position(|&unit| unit == given.a.unit())?;
+    let next = &answer[NEXT_CACHE..COUNT];
+    let axis = [0, 0, 2, 2, 4].get(usize::from(next[TYPE])).copied()?;
+    let points = u8::from(answer[COUNT] > 0);
+    (given.capacity >= 4).then_some([unit as u8, axis, points, next[HIT]])
 }
 
 /// What a frame meets: the kind of its answer and its fault or status; of a refused hull which rule, and whether the type of

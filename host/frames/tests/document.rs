@@ -73,10 +73,11 @@ fn faults_come_in_order() {
 /// A cube's frame by the places that document 01 gives, and back.
 #[test]
 fn a_call_is_laid_out_as_written() {
-    let (a, b) = (
+    let (mut a, b) = (
         Shape::new(&block([1.0, 2.0, 4.0])),
         Shape::new(&pyramid(4, 1.0, 1.0)),
     );
+    a.size.unit = 1000;
     let part = |x: u32| f32::from_bits(x);
     let call = Call {
         capacity: -2,
@@ -112,30 +113,40 @@ fn a_call_is_laid_out_as_written() {
         hex::written(&frame[..HULL_A]),
         head.replace(' ', "").as_bytes()
     );
-    // V 8, H 24, F 6; the box; then the x list.
-    let hull = "000800180006bf800000c0000000c08000003f8000004000000040800000bf8000003f800000";
+    // The unit; V 8, H 24, F 6; the box; then the x list.
+    let hull = "03e8000800180006bf800000c0000000c08000003f8000004000000040800000bf8000003f800000";
     assert!(hex::written(&frame[HULL_A..]).starts_with(hull.as_bytes()));
     // Vertex edges, half-edges, face edges, planes.
-    let links = HULL_A + 6 + 24 + 3 * 32;
+    let links = HULL_A + 8 + 24 + 3 * 32;
     assert_eq!(frame[links..links + 8 + 96 + 6], a.links);
     let planes = links + 110;
     assert_eq!(frame[planes..planes + 4], (-1f32).to_be_bytes());
-    // V 5, padded to 8.
+    // The unit; V 5, padded to 8.
     let hull_b = planes + 96;
-    assert_eq!(frame[hull_b..hull_b + 6], [0, 5, 0, 16, 0, 5]);
-    assert_eq!(frame.len(), hull_b + 6 + 24 + 96 + 5 + 64 + 5 + 80);
+    assert_eq!(frame[hull_b..hull_b + 8], [0, 1, 0, 5, 0, 16, 0, 5]);
+    assert_eq!(frame.len(), hull_b + 8 + 24 + 96 + 5 + 64 + 5 + 80);
 
     let Ok(Asked::Call(given)) = decode(&frame) else {
         panic!("the frame is a call");
     };
     assert_eq!(call_frame(&given.call()), frame);
     assert_eq!((given.capacity, given.cache), (call.capacity, call.cache));
+    assert_eq!((given.a.size.unit, given.b.size.unit), (1000, 1));
     for length in 0..frame.len() {
         assert!(decode(&frame[..length]).is_err());
     }
     let mut longer = frame.clone();
     longer.push(0);
     assert!(decode(&longer).is_err());
+
+    // The length follows from the sizes alone, whatever the unit is.
+    for unit in [0, 1, 10, 77, 65_535u16] {
+        for hull in [HULL_A, hull_b] {
+            let mut other = frame.clone();
+            other[hull..hull + 2].copy_from_slice(&unit.to_be_bytes());
+            assert!(decode(&other).is_ok() && decode(&other[1..]).is_err());
+        }
+    }
 }
 
 /// A NaN that is handed out has fixed bits; the places stand together behind the points, and the mark last.

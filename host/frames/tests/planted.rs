@@ -62,6 +62,8 @@ struct StandIn {
     unmarked: bool,
     /// Has place 0 in every point of a call by records.
     unplaced: bool,
+    /// Takes hull A's unit for hull B's in a call by records.
+    one_unit: bool,
 }
 
 const RIGHT: StandIn = StandIn {
@@ -72,6 +74,7 @@ const RIGHT: StandIn = StandIn {
     keeps_hit: false,
     unmarked: false,
     unplaced: false,
+    one_unit: false,
 };
 
 impl Library for StandIn {
@@ -93,6 +96,10 @@ impl Library for StandIn {
     }
 
     fn collide(&mut self, call: &Call) -> Answer {
+        let mut call = *call;
+        if self.one_unit {
+            call.b.size.unit = call.a.size.unit;
+        }
         let mut answer = call.wanted();
         if self.keeps_hit {
             answer.cache.hit = call.cache.hit;
@@ -149,6 +156,11 @@ fn faults_of_a_library_are_told() {
         "any owner flipped",
         "H9 not tested",
         "half-edges reached by next alone",
+        "slop left at unit 1",
+        "slop and speculative distance left at unit 1",
+        "4096 left at unit 1 for coordinates",
+        "the unit not in H1",
+        "17 not given",
     ] {
         let library = || StandIn { fault, ..RIGHT };
         assert!(held(library()) > 0 && fuzzed(library()) > 0, "{fault}");
@@ -160,6 +172,14 @@ fn faults_of_a_library_are_told() {
         "refusal 1 where B breaks H9",
         "H9 after the transform",
         "H9 with a capacity below 4",
+        "slop multiplied twice",
+        "starting support value left at unit 1",
+        "8192 left at unit 1",
+        "1/1024 left at unit 1",
+        "4096 left at unit 1 for the transform",
+        "A's unit used for B's rules",
+        "17 after 3",
+        "17 with a capacity below 4",
     ] {
         assert!(held(StandIn { fault, ..RIGHT }) > 0, "{fault}");
     }
@@ -179,8 +199,9 @@ fn bytes_outside_the_answer_are_told() {
 
 #[test]
 fn a_call_by_records_is_told() {
-    let (keeps_hit, unmarked, unplaced) = (true, true, true);
+    let (keeps_hit, unmarked, unplaced, one_unit) = (true, true, true, true);
     assert!(held(StandIn { keeps_hit, ..RIGHT }) > 0);
     assert!(held(StandIn { unmarked, ..RIGHT }) > 0);
     assert!(held(StandIn { unplaced, ..RIGHT }) > 0);
+    assert!(held(StandIn { one_unit, ..RIGHT }) > 0);
 }

@@ -2,7 +2,9 @@
 //! of the examples, where that is at hand.
 #![cfg(rust_text)]
 
-use frames::codec::{COUNT, NEXT_CACHE, PLACES, RETIRED, STATUS};
+use frames::codec::{
+    decode, Asked, COUNT, HULL_A, NEXT_CACHE, PLACES, RETIRED, STATUS, UNIT_AND_SIZES,
+};
 use frames::requests::{self, Example};
 use frames::{hex, wanted};
 use std::fs;
@@ -35,13 +37,32 @@ fn folder() -> Option<PathBuf> {
 }
 
 /// An answer as it was when the request landed: k's ends before the mark and the places, j's has no places before the mark.
-fn as_landed(letter: char, mut answer: Vec<u8>) -> Vec<u8> {
+fn answer_as_landed(letter: char, mut answer: Vec<u8>) -> Vec<u8> {
     match letter {
         'k' => answer.truncate(PLACES),
         'j' => drop(answer.drain(PLACES..RETIRED)),
         _ => {}
     }
     answer
+}
+
+/// A frame as it was when the request landed: before i there was no unit, whose two bytes stand before each hull's V, and all
+/// hulls were in metres.
+fn frame_as_landed(letter: char, mut frame: Vec<u8>) -> Vec<u8> {
+    if letter == 'i' {
+        return frame;
+    }
+    let Ok(Asked::Call(given)) = decode(&frame) else {
+        panic!("an example that is no call");
+    };
+    assert_eq!((given.a.size.unit, given.b.size.unit), (1, 1));
+    let size = given.a.size;
+    let lists = 4 * size.numbers().expect("small") + size.links().expect("small");
+    let hull_b = HULL_A + UNIT_AND_SIZES + lists;
+    for unit in [hull_b, HULL_A] {
+        frame.drain(unit..unit + 2);
+    }
+    frame
 }
 
 /// Both files of a request have one line an example.
@@ -63,8 +84,9 @@ fn files_of_the_examples() {
         );
         assert_eq!([frames.len(), answers.len()], [examples.len(); 2]);
         for (example, (frame, marked)) in examples.iter().zip(frames.iter().zip(&answers)) {
-            assert!(example.frame == *frame, "frame of {}", example.words);
-            let ours = as_landed(letter, answer(example));
+            let own = frame_as_landed(letter, example.frame.clone());
+            assert!(own == *frame, "frame of {}", example.words);
+            let ours = answer_as_landed(letter, answer(example));
             assert_eq!(ours, *marked, "{}", example.words);
         }
     }

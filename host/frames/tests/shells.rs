@@ -13,13 +13,13 @@ fn given(name: &str) -> Vec<Given> {
     let sorts = frames.sorts();
     let sort = sorts.iter().position(|sort| sort.name == name);
     let sort = sort.expect("there is such a sort");
-    let units = (0..ROUNDS).map(|round| round * sorts.len() + sort);
+    let batches = (0..ROUNDS).map(|round| round * sorts.len() + sort);
     let asked = |frame: frames::Frame| match frame.bytes().map(decode) {
         Some(Ok(Asked::Call(given))) => given,
         _ => panic!("a frame that is no call"),
     };
-    units
-        .flat_map(|unit| frames.unit(unit))
+    batches
+        .flat_map(|batch| frames.batch(batch))
         .map(asked)
         .collect()
 }

@@ -6,9 +6,9 @@ use cases::shapes::breaks::RULES;
 use cases::shapes::kinds::SHELLS;
 use cases::shapes::solids::block;
 use cases::shapes::{Link, Shape};
-use frames::codec::{decode, Asked, COUNT, NEXT_CACHE, PLACES, RETIRED, STATUS, TYPE};
+use frames::codec::{decode, Asked, COUNT, HIT, NEXT_CACHE, PLACES, RETIRED, STATUS, TYPE};
 use frames::{hex, stored, wanted};
-use records::SatCache;
+use records::{SatCache, Unit};
 use std::collections::HashSet;
 use std::fs;
 use std::path::Path;
@@ -70,7 +70,7 @@ fn all_that_must_be_is_stored() {
     for begin in ["ff08", "ff21", "ff22", "ff23", "ff24"] {
         assert!(begins.contains(begin.as_bytes()), "{begin}");
     }
-    for refusal in 0..=6 {
+    for refusal in (0..=6).chain([17]) {
         let begin = format!("92{refusal:02x}");
         assert!(begins.contains(begin.as_bytes()), "{begin}");
     }
@@ -224,4 +224,88 @@ fn places_are_stored() {
         assert!(!met.contains(&(next_type, false, false)));
     }
     assert!(met.contains(&(4, false, true)), "an edge point");
+}
+
+/// In each unit: contacts on faces and on edges, hits with and without points, axes apart, hulls refused for their numbers,
+/// transforms refused.
+#[test]
+fn units_are_stored() {
+    let mut met = HashSet::new();
+    for (mut given, answer) in calls() {
+        let [a, b] = [&given.a, &given.b].map(|hull| hull.size.known_unit());
+        let Ok(unit) = a.and_then(|a| b.map(|b| [a, b])) else {
+            continue;
+        };
+        if unit[0] != unit[1] || given.capacity < 4 {
+            continue;
+        }
+        let way = match answer[STATUS] {
+            0 => {
+                let next = &answer[NEXT_CACHE..COUNT];
+                let axis = ["none", "none", "face", "face", "edges"][usize::from(next[TYPE])];
+                let points = if answer[COUNT] > 0 { "points" } else { "none" };
+                (axis, points, next[HIT])
+            }
+            1 | 2 => {
+                let side = usize::from(answer[STATUS]) - 1;
+                ("broken", "", given.side(side).broken_rule())
+            }
+            refusal => ("refused", "", refusal),
+        };
+        met.insert((unit[0].per_metre(), way));
+    }
+    for unit in Unit::ALL {
+        for way in [
+            ("face", "points", 0),
+            ("face", "points", 1),
+            ("face", "none", 0),
+            ("face", "none", 1),
+            ("edges", "points", 0),
+            ("edges", "points", 1),
+            ("broken", "", 8),
+            ("refused", "", 3),
+        ] {
+            assert!(met.contains(&(unit.per_metre(), way)), "{unit}: {way:?}");
+        }
+    }
+}
+
+/// Refusal 17 alone and beside a transform and a cache that break their rules; hulls that break one beside unlike units, which are
+/// refused by 1 and 2; a capacity below 4; and of both hulls each number that is no unit and has a name in the examples.
+#[test]
+fn unlike_and_unknown_units_are_stored() {
+    let (mut beside, mut not_looked_at, mut unknown) = (HashSet::new(), 0, HashSet::new());
+    for (mut given, answer) in calls() {
+        let units = [given.a.size.unit, given.b.size.unit];
+        let rules = [given.a.broken_rule(), given.b.broken_rule()];
+        if given.capacity < 4 {
+            not_looked_at += u32::from(units[0] != units[1]);
+            continue;
+        }
+        for side in 0..2 {
+            if answer[STATUS] == [1, 2][side] && rules[side] == 1 {
+                unknown.insert((side, units[side]));
+            }
+        }
+        if units[0] == units[1] || units.iter().any(|&unit| Unit::try_from(unit).is_err()) {
+            continue;
+        }
+        given.a = Shape::new(&block([1.0; 3])).in_unit(given.a.unit());
+        given.b = given.a.clone();
+        beside.insert((answer[STATUS], given.call().refusal()));
+    }
+    for others in [0, 3, 4] {
+        for status in [17, 1, 2] {
+            assert!(beside.contains(&(status, others)), "{status}, {others}");
+        }
+    }
+    assert!(beside
+        .iter()
+        .all(|&(status, _)| [1, 2, 17].contains(&status)));
+    assert!(not_looked_at > 0);
+    for unit in [0, 2, 5, 10_000, 65_535] {
+        for side in 0..2 {
+            assert!(unknown.contains(&(side, unit)), "{unit} of hull {side}");
+        }
+    }
 }

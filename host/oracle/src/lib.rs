@@ -1,6 +1,8 @@
 //! The given Rust text, unchanged and read where it stands, built together with one reading of the helpers that it
 //! lacks: the oracle of everything the text holds. Beside it stands a copy of hulls.rs with one line put in, which carries a
 //! candidate's place to the point that it becomes. Where the text is not at hand, only the readings are built.
+//!
+//! A metre has one length unit; what is done inside `core::with_length_units` has as many as that says.
 
 mod awaited;
 pub mod core;

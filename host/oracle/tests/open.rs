@@ -1,6 +1,8 @@
 //! Document 01's marked examples of pairs, lanes, cuts and picks, through the door.
 #![cfg(rust_text)]
 
+use oracle::constants::{huge, linear_slop, speculative_distance};
+use oracle::core::with_length_units;
 use oracle::math_functions::*;
 use oracle::open::*;
 
@@ -149,5 +151,21 @@ fn six_points_are_reduced_to_four() {
         let left = reduce_manifold_points(normal, &points, count);
         let made = buffers.reduce_manifold_points(normal, &points[..count as usize]);
         assert_eq!(made as usize, left.len());
+    }
+}
+
+/// Slop, speculative distance and starting support value by their bits: at 10 the slop is a tie to even and not the float nearest
+/// 0.05, and at 1000 the low seven bits of the last are not 0.
+#[test]
+fn lengths_go_by_the_unit() {
+    let wanted = [
+        (1.0, [0x3ba3_d70a, 0x3ca3_d70a, 0x47c3_5000]),
+        (10.0, [0x3d4c_cccc, 0x3e4c_cccc, 0x4974_2400]),
+        (100.0, [0x3f00_0000, 0x4000_0000, 0x4b18_9680]),
+        (1000.0, [0x40a0_0000, 0x41a0_0000, 0x4cbe_bc20]),
+    ];
+    for (unit, bits) in wanted {
+        let lengths = with_length_units(unit, || [linear_slop(), speculative_distance(), huge()]);
+        assert_eq!(lengths.map(f32::to_bits), bits, "{unit}");
     }
 }

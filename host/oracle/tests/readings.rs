@@ -1,5 +1,6 @@
 //! The readings agree with each other. These tests run without the text too.
 
+use oracle::core::{get_length_units_per_meter, with_length_units};
 use oracle::math_functions::*;
 use oracle::quiet;
 
@@ -139,4 +140,21 @@ fn quiet_catches_and_lets_through() {
         quiet(|| (quiet(|| empty[std::hint::black_box(0)]), 7)),
         Some((None, 7))
     );
+}
+
+/// Set for the time of the work, inside other work and where it panics; and other threads keep their own.
+#[test]
+fn length_units_are_set_and_put_back() {
+    let units = get_length_units_per_meter;
+    assert_eq!(units(), 1.0);
+    with_length_units(100.0, || {
+        assert_eq!(units(), 100.0);
+        assert_eq!(with_length_units(10.0, units), 10.0);
+        let empty: [u8; 0] = [];
+        let panics = || with_length_units(1000.0, || empty[std::hint::black_box(0)]);
+        assert_eq!(quiet(panics), None);
+        assert_eq!(units(), 100.0);
+        assert_eq!(std::thread::spawn(units).join().ok(), Some(1.0));
+    });
+    assert_eq!(units(), 1.0);
 }

@@ -1,6 +1,6 @@
 //! The axis search.
 
-use super::{transform_accepted, Accepted, HullSize, Transform, Vec3};
+use super::{transform_accepted, Accepted, HullSize, Transform, Unit, Vec3};
 
 /// One axis: its normal in A's frame from A to B, the separation along it, and the numbers of what it joins. For face A
 /// these are the face and B's support vertex, for face B A's support vertex and the face, for an edge pair two
@@ -55,25 +55,30 @@ mod linked {
     }
 }
 
-/// A transform that the library has accepted. Judged once, it serves any number of calls.
+/// A transform that the library has accepted between hulls of this unit. Judged once, it serves any number of calls.
 #[derive(Debug, Clone, Copy)]
-pub struct Placed(Transform);
+pub struct Placed {
+    unit: usize,
+    transform: Transform,
+}
 
 impl Placed {
     /// Panics where the transform breaks its rule.
-    pub fn new(transform: Transform) -> Self {
+    pub fn new(unit: Unit, transform: Transform) -> Self {
+        let unit = unit.per_metre();
         assert!(
-            transform_accepted(transform),
+            transform_accepted(unit, transform),
             "the transform is not an accepted one: {transform:?}"
         );
-        Placed(transform)
+        Placed { unit, transform }
     }
 }
 
 /// The search of an axis between two hulls, B placed in A's frame. It stops at the first new best strictly above the
-/// speculative distance.
+/// speculative distance. Panics where the units differ.
 #[inline]
 pub fn compute_separating_axis(a: Accepted, b: Accepted, placed: Placed) -> Searched {
+    assert!(a.size.unit == placed.unit && b.size.unit == placed.unit);
     unsafe {
         linked::probe_compute_separating_axis(
             a.numbers.as_ptr(),
@@ -86,7 +91,7 @@ pub fn compute_separating_axis(a: Accepted, b: Accepted, placed: Placed) -> Sear
             b.links.as_ptr(),
             b.links.len(),
             b.size,
-            placed.0,
+            placed.transform,
         )
     }
 }

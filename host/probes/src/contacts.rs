@@ -49,13 +49,15 @@ pub(super) mod linked {
         ) -> usize;
         pub fn probe_images(candidates: Polygon, normal: Vec3) -> Polygon;
         pub fn probe_least_separation(candidates: Polygon) -> f32;
-        pub fn probe_touching(count: usize, least: f32) -> bool;
+        pub fn probe_touching(unit: usize, count: usize, least: f32) -> bool;
         pub fn probe_reduce_manifold_points(
+            unit: usize,
             points: Polygon,
             normal: Vec3,
             direction: Vec3,
         ) -> Contact;
         pub fn probe_reduce_rounds(
+            unit: usize,
             points: Polygon,
             normal: Vec3,
             direction: Vec3,
@@ -169,15 +171,20 @@ pub fn least_separation(candidates: &Polygon) -> f32 {
     unsafe { linked::probe_least_separation(*candidates) }
 }
 
-pub fn touching(count: usize, least: f32) -> bool {
-    unsafe { linked::probe_touching(count, least) }
+pub fn touching(unit: usize, count: usize, least: f32) -> bool {
+    unsafe { linked::probe_touching(unit, count, least) }
 }
 
 /// The first pick searches along `direction`. Panics where there are more than 64 candidates.
 #[inline]
-pub fn reduce_manifold_points(points: &Polygon, normal: Vec3, direction: Vec3) -> Contact {
+pub fn reduce_manifold_points(
+    unit: usize,
+    points: &Polygon,
+    normal: Vec3,
+    direction: Vec3,
+) -> Contact {
     assert!(points.count <= MAX_CLIP_POINTS);
-    unsafe { linked::probe_reduce_manifold_points(*points, normal, direction) }
+    unsafe { linked::probe_reduce_manifold_points(unit, *points, normal, direction) }
 }
 
 /// The most rounds of one call.
@@ -185,9 +192,15 @@ pub const MOST_ROUNDS: usize = 65536;
 
 /// So many reductions inside the library, and how many points they leave together. Panics where there are more than 64
 /// candidates or too many rounds.
-pub fn reduce_rounds(points: &Polygon, normal: Vec3, direction: Vec3, rounds: usize) -> usize {
+pub fn reduce_rounds(
+    unit: usize,
+    points: &Polygon,
+    normal: Vec3,
+    direction: Vec3,
+    rounds: usize,
+) -> usize {
     assert!(points.count <= MAX_CLIP_POINTS && rounds <= MOST_ROUNDS);
-    unsafe { linked::probe_reduce_rounds(*points, normal, direction, rounds) }
+    unsafe { linked::probe_reduce_rounds(unit, *points, normal, direction, rounds) }
 }
 
 /// Panics where the hull has no such vertex.

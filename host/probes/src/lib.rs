@@ -10,7 +10,7 @@ pub use axes::*;
 pub use contacts::*;
 pub use places::*;
 pub use records::{
-    Contact, FeaturePair, HullSize, Plane, Point, Quat, Transform, Vec3, MAX_MANIFOLD_POINTS,
+    Contact, FeaturePair, HullSize, Plane, Point, Quat, Transform, Unit, Vec3, MAX_MANIFOLD_POINTS,
 };
 
 #[derive(Debug, Clone, Copy)]
@@ -94,13 +94,21 @@ pub struct Flipped {
     pub pair: FeaturePair,
 }
 
+/// The lengths that go by the unit.
 #[derive(Debug, Clone, Copy)]
 #[repr(C)]
 pub struct Limits {
     pub slop: f32,
     pub speculative: f32,
+    /// The starting support value.
     pub huge: f32,
+    /// The unit itself.
     pub units: f32,
+    /// Of coordinates, padding, boxes and positions.
+    pub coordinate: f32,
+    pub offset: f32,
+    /// The shortest edge.
+    pub edge: f32,
 }
 
 mod linked {
@@ -129,8 +137,8 @@ mod linked {
         pub fn probe_min_int(a: usize, b: usize) -> usize;
         pub fn probe_edge_pair(index_a: u8, index_b: u8) -> FeaturePair;
         pub fn probe_flip_pair(pair: FeaturePair) -> Flipped;
-        pub fn probe_limits() -> Limits;
-        pub fn probe_transform_accepted(t: Transform) -> bool;
+        pub fn probe_limits(unit: usize) -> Limits;
+        pub fn probe_transform_accepted(unit: usize, t: Transform) -> bool;
     }
 }
 
@@ -208,12 +216,13 @@ pub fn flip_pair(pair: FeaturePair) -> Flipped {
     unsafe { linked::probe_flip_pair(pair) }
 }
 
-pub fn limits() -> Limits {
-    unsafe { linked::probe_limits() }
+/// A number that is no unit acts as 1, here and wherever a unit is handed over.
+pub fn limits(unit: usize) -> Limits {
+    unsafe { linked::probe_limits(unit) }
 }
 
-pub fn transform_accepted(t: Transform) -> bool {
-    unsafe { linked::probe_transform_accepted(t) }
+pub fn transform_accepted(unit: usize, t: Transform) -> bool {
+    unsafe { linked::probe_transform_accepted(unit, t) }
 }
 
 fn finite(v: FloatW) -> bool {

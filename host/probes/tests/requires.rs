@@ -17,8 +17,10 @@ const FLOOR: Plane = Plane {
     offset: 0.0,
 };
 
-fn log() -> OwnedHull {
-    HullBuilder::log(6, 0.2, 0.15, 3.0).build().expect("a log")
+fn log(unit: Unit) -> OwnedHull {
+    let [butt, top, length] = [0.2, 0.15, 3.0].map(|metres| metres * unit.scale());
+    let log = HullBuilder::log(6, butt, top, length).unit(unit);
+    log.build().expect("a log")
 }
 
 fn accepted(log: &OwnedHull) -> Accepted<'_> {
@@ -106,21 +108,21 @@ fn polygons_have_1_to_64_corners() {
     keeps("least of 64", || least_separation(&corners(64)));
     breaks("least of 65", || least_separation(&corners(65)));
     keeps("picks of 64", || {
-        reduce_manifold_points(&corners(64), UP, UP)
+        reduce_manifold_points(1, &corners(64), UP, UP)
     });
     breaks("picks of 65", || {
-        reduce_manifold_points(&corners(65), UP, UP)
+        reduce_manifold_points(1, &corners(65), UP, UP)
     });
-    keeps("rounds", || reduce_rounds(&corners(64), UP, UP, 1));
-    breaks("rounds of 65", || reduce_rounds(&corners(65), UP, UP, 1));
+    keeps("rounds", || reduce_rounds(1, &corners(64), UP, UP, 1));
+    breaks("rounds of 65", || reduce_rounds(1, &corners(65), UP, UP, 1));
     breaks("too many rounds", || {
-        reduce_rounds(&corners(64), UP, UP, MOST_ROUNDS + 1)
+        reduce_rounds(1, &corners(64), UP, UP, MOST_ROUNDS + 1)
     });
 }
 
 #[test]
 fn hulls_are_accepted_and_numbers_theirs() {
-    let owned = log();
+    let owned = log(Unit::Metres);
     let (hull, size) = (accepted(&owned), owned.size());
     assert!(
         Accepted::new(&owned.numbers()[1..], owned.links(), size).is_none(),
@@ -149,14 +151,26 @@ fn hulls_are_accepted_and_numbers_theirs() {
     });
 }
 
+/// In each unit by its own limit, and only between hulls of that unit.
 #[test]
 fn transforms_are_accepted() {
-    let owned = log();
-    let hull = accepted(&owned);
-    keeps("4096", || {
-        compute_separating_axis(hull, hull, Placed::new(at_rest(4096.0)))
-    });
-    breaks("beyond 4096", || {
-        compute_separating_axis(hull, hull, Placed::new(at_rest(4096.0f32.next_up())))
-    });
+    for unit in Unit::ALL {
+        let owned = log(unit);
+        let hull = accepted(&owned);
+        let far = unit.farthest();
+        let search = |x: f32| compute_separating_axis(hull, hull, Placed::new(unit, at_rest(x)));
+        keeps("at the limit", || search(far));
+        breaks("beyond it", || search(far.next_up()));
+        for other in Unit::ALL.into_iter().filter(|&other| other != unit) {
+            let placed = Placed::new(other, at_rest(0.0));
+            breaks("another unit", || {
+                compute_separating_axis(hull, hull, placed)
+            });
+            let unlike = log(other);
+            let placed = Placed::new(unit, at_rest(0.0));
+            breaks("unlike units", || {
+                compute_separating_axis(hull, accepted(&unlike), placed)
+            });
+        }
+    }
 }

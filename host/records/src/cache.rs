@@ -27,7 +27,7 @@ impl SatCache {
     /// call that reads one says so ([`Outcome::retired_type_read`](crate::Outcome::retired_type_read)).
     pub const RETIRED_TYPES: [u8; 3] = [6, 7, 8];
 
-    /// The separation along the axis, in metres; below zero where the hulls overlap.
+    /// The separation along the axis, in the unit of the hulls; below zero where they overlap.
     #[inline]
     pub fn separation(&self) -> f32 {
         f32::from_bits(self.separation)

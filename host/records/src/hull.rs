@@ -1,15 +1,25 @@
-//! A hull as it is lent: two lists and three sizes.
+//! A hull as it is lent: two lists, its unit and three sizes.
 
-/// How many vertices, half-edges and faces a hull has.
+use crate::{Unit, UnknownUnit};
+
+/// The length unit of a hull, and how many vertices, half-edges and faces it has.
 #[derive(Debug, Clone, Copy, PartialEq, Eq)]
 #[repr(C)]
 pub struct HullSize {
+    /// How many make a metre: 1, 10, 100 or 1000 ([`Unit::per_metre`]); any other number breaks H1.
+    pub unit: usize,
     pub vertices: usize,
     pub half_edges: usize,
     pub faces: usize,
 }
 
 impl HullSize {
+    /// Its unit, where it is one.
+    #[inline]
+    pub fn known_unit(self) -> Result<Unit, UnknownUnit> {
+        self.unit.try_into()
+    }
+
     /// How many numbers such a hull has: its box, three lists padded to a multiple of four, four a face. None where
     /// that is more than a `usize` holds.
     #[inline]
@@ -34,7 +44,7 @@ impl HullSize {
 ///
 /// `numbers`: box low x, y, z; box high x, y, z; the x list, the y list, the z list, each padded to a multiple of four;
 /// then for each face its normal x, y, z and its offset. `links`: the stored edge of each vertex; next, twin, origin and
-/// face of each half-edge; the stored edge of each face.
+/// face of each half-edge; the stored edge of each face. All but the normals are lengths in the hull's unit.
 #[derive(Debug, Clone, Copy)]
 pub struct HullLists<'a> {
     pub numbers: &'a [f32],

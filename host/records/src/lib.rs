@@ -1,19 +1,21 @@
 //! What a host and the proved library hand each other: records in C's layout with the fields of their Rattle originals
-//! in their order, a hull as it is lent, the refusals and the rules in words. Nothing is linked.
+//! in their order, a hull as it is lent and its length unit, the refusals and the rules in words. Nothing is linked.
 
 mod cache;
 mod hull;
 mod refusal;
 mod rule;
+mod unit;
 
 pub use cache::{CacheKind, SatCache};
 pub use hull::{HullLists, HullSize};
 pub use refusal::Refusal;
 pub use rule::Rule;
+pub use unit::{Unit, UnknownUnit};
 
 /// The number of these records and of the functions that take them. The library has the number that it was built with
 /// (`contact_abi`), and the header has it too (`CONTACT_ABI`); where two of them differ, nothing is called.
-pub const ABI: u32 = 4;
+pub const ABI: u32 = 5;
 
 /// The most points of a contact, and the least capacity with which a call does any work.
 pub const MAX_MANIFOLD_POINTS: usize = 4;
@@ -54,7 +56,7 @@ impl Quat {
     };
 }
 
-/// Where B lies in A's frame: turned by `q`, then moved by `p`.
+/// Where B lies in A's frame: turned by `q`, then moved by `p`, which is in the unit of the hulls.
 #[derive(Debug, Clone, Copy, PartialEq)]
 #[repr(C)]
 pub struct Transform {
@@ -90,7 +92,7 @@ impl FeaturePair {
     };
 }
 
-/// A point of a contact, in A's frame; its separation is below zero where the hulls overlap there.
+/// A point of a contact, in A's frame and in the unit of the hulls; its separation is below zero where they overlap there.
 #[derive(Debug, Clone, Copy, PartialEq)]
 #[repr(C)]
 pub struct Point {
@@ -164,7 +166,8 @@ impl Outcome {
         self.contact.points()
     }
 
-    /// The contact, or why there is none.
+    /// The contact, or why there is none. Only status 0 is an accepted call: one whose number has no meaning here is refused as
+    /// [`Refusal::Unknown`].
     #[inline]
     pub fn accepted(self) -> Result<Contact, Refusal> {
         match self.refusal() {

@@ -1,24 +1,31 @@
-//! The refusals of document 01 by their numbers: what each means, and what to do about it.
+//! The refusals of documents 01 and 02 by their numbers: what each means, and what to do about it.
 
 use std::fmt;
 
-/// The number between the last two ended with the refusal that had it, and is not given to anything else.
+/// In the order in which they are given. The number 7 ended with the refusal that had it, and is not given to anything else.
 #[derive(Debug, Clone, Copy, PartialEq, Eq)]
-#[repr(u8)]
 pub enum Refusal {
-    HullA = 1,
-    HullB = 2,
-    Transform = 3,
-    Cache = 4,
-    PaddingWon = 5,
-    CutFull = 6,
-    Owner = 8,
+    HullA,
+    HullB,
+    Units,
+    Transform,
+    Cache,
+    PaddingWon,
+    CutFull,
+    Owner,
+    /// A number that is none of these. No library of this ABI number gives it; if one did, its call must not pass for an
+    /// accepted one.
+    Unknown {
+        status: u8,
+    },
 }
 
 impl Refusal {
-    pub const ALL: [Refusal; 7] = [
+    /// Those that are given.
+    pub const ALL: [Refusal; 8] = [
         Refusal::HullA,
         Refusal::HullB,
+        Refusal::Units,
         Refusal::Transform,
         Refusal::Cache,
         Refusal::PaddingWon,
@@ -26,15 +33,30 @@ impl Refusal {
         Refusal::Owner,
     ];
 
-    /// The refusal of this number; none where it is 0. A call's status is at most 6, and a flip's is 0 or 8.
+    /// The refusal of this number; none where it is 0, and only there: nothing but 0 says that a call was accepted. A call's
+    /// status is at most 6 or it is 17, and a flip's is 0 or 8.
     #[inline]
     pub fn of_status(status: u8) -> Option<Refusal> {
+        if status == 0 {
+            return None;
+        }
         let numbered = |refusal: &Refusal| refusal.number() == status;
-        Refusal::ALL.into_iter().find(numbered)
+        let given = Refusal::ALL.into_iter().find(numbered);
+        Some(given.unwrap_or(Refusal::Unknown { status }))
     }
 
     pub fn number(self) -> u8 {
-        self as u8
+        match self {
+            Refusal::HullA => 1,
+            Refusal::HullB => 2,
+            Refusal::Units => 17,
+            Refusal::Transform => 3,
+            Refusal::Cache => 4,
+            Refusal::PaddingWon => 5,
+            Refusal::CutFull => 6,
+            Refusal::Owner => 8,
+            Refusal::Unknown { status } => status,
+        }
     }
 
     /// When it is given.
@@ -42,13 +64,15 @@ impl Refusal {
         match self {
             Refusal::HullA => "hull A breaks a rule",
             Refusal::HullB => "hull B breaks a rule",
+            Refusal::Units => "the two hulls have different length units",
             Refusal::Transform => {
-                "the transform is not finite, farther than 4096 on an axis, or no rotation"
+                "the transform is not finite, farther than 4096 * unit on an axis, or no rotation"
             }
             Refusal::Cache => "the cache names a face or an edge that its hull does not have",
             Refusal::PaddingWon => "a padding lane reaches farther than every vertex",
             Refusal::CutFull => "a cut would put out a 65th vertex",
             Refusal::Owner => "the pair to be flipped has an owner above 1",
+            Refusal::Unknown { .. } => "the library gives a number that this wrapper does not know",
         }
     }
 
@@ -56,8 +80,11 @@ impl Refusal {
     pub fn remedy(self) -> &'static str {
         match self {
             Refusal::HullA | Refusal::HullB => "ask for the rule that it breaks, and mend the hull",
+            Refusal::Units => {
+                "bring both hulls to one unit: multiply box, coordinates and offsets of one of them, and set its unit"
+            }
             Refusal::Transform => {
-                "give B's place in A's frame, and normalize the quaternion every few steps"
+                "give B's place in A's frame and unit, and normalize the quaternion every few steps"
             }
             Refusal::Cache => {
                 "start this pair from an empty cache; a cache belongs to one pair of hulls"
@@ -65,6 +92,7 @@ impl Refusal {
             Refusal::PaddingWon => "fill the padding with vertex 0",
             Refusal::CutFull => "give the two faces fewer sides",
             Refusal::Owner => "an owner is 0 for hull A or 1 for hull B",
+            Refusal::Unknown { .. } => "take the library and the wrapper from the same release",
         }
     }
 }

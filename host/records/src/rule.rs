@@ -45,7 +45,7 @@ impl Rule {
     /// What breaks it.
     pub fn meaning(self) -> &'static str {
         match self {
-            Rule::Sizes => "a size is outside its limits, or a list has not the length that the sizes ask for",
+            Rule::Sizes => "the unit is not 1, 10, 100 or 1000, a size is outside its limits, or a list has not the length that the sizes ask for",
             Rule::Ranges => "a stored number of a vertex, a half-edge or a face is out of range",
             Rule::Twins => "half-edges 2k and 2k+1 are not each other's twin",
             Rule::Nexts => "a half-edge's next has another face, or does not start where the half-edge ends",
@@ -60,14 +60,14 @@ impl Rule {
     /// What a host can do about it.
     pub fn remedy(self) -> &'static str {
         match self {
-            Rule::Sizes => "keep to V 4 to 128, H even and 12 to 256, F 4 to 128, and look at the lists' lengths",
+            Rule::Sizes => "keep to unit 1, 10, 100 or 1000, V 4 to 128, H even and 12 to 256, F 4 to 128, and look at the lists' lengths",
             Rule::Ranges => "look for a stored number at or above V, H or F",
             Rule::Twins => "number the two half-edges of each edge side by side, the first of them even",
             Rule::Nexts => "go round every face counter-clockwise as seen from outside, each side from the end of the last",
             Rule::SharedNext => "give every half-edge a next of its own",
             Rule::Rings => "store for each face a half-edge of its ring, and give a face with two rings two numbers",
             Rule::Fans => "store for each vertex a half-edge that starts there, and give a corner where two fans meet two vertices",
-            Rule::Numbers => "keep coordinates, padding and box within 4096, offsets within 8192, vertices in the box, edges above 1/1024",
+            Rule::Numbers => "keep coordinates, padding, box within 4096 * unit, offsets within 8192 * unit, vertices in the box, edges from unit / 1024 on",
             Rule::Shell => "give each closed shell a record of its own, and cut a solid with a hole into pieces without one",
         }
     }

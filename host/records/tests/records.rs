@@ -16,7 +16,7 @@ fn layouts() {
     lies!(Vec3, 12, x 0, y 4, z 8);
     lies!(Quat, 16, v 0, s 12);
     lies!(Transform, 28, p 0, q 12);
-    lies!(HullSize, 24, vertices 0, half_edges 8, faces 16);
+    lies!(HullSize, 32, unit 0, vertices 8, half_edges 16, faces 24);
     lies!(SatCache, 8, separation 0, kind 4, index_a 5, index_b 6, hit 7);
     lies!(FeaturePair, 4, owner1 0, index1 1, owner2 2, index2 3);
     lies!(Point, 24, position 0, separation 12, pair 16, place 20);
@@ -26,10 +26,11 @@ fn layouts() {
 
 #[test]
 fn refusals() {
-    for number in 0..=255 {
-        let refusal = Refusal::of_status(number);
-        assert_eq!(refusal.is_some(), matches!(number, 1..=6 | 8), "{number}");
-        let Some(refusal) = refusal else { continue };
+    assert_eq!(Refusal::of_status(0), None);
+    for number in 1..=255 {
+        let refusal = Refusal::of_status(number).expect("only 0 is accepted");
+        let given = matches!(number, 1..=6 | 8 | 17);
+        assert_eq!(Refusal::ALL.contains(&refusal), given, "{number}");
         assert_eq!(refusal.number(), number);
         let words = refusal.to_string();
         assert!(words.starts_with(&format!("refusal {number}: ")), "{words}");
@@ -55,6 +56,90 @@ fn outcomes() {
     };
     assert_eq!(refused.accepted(), Err(Refusal::CutFull));
     assert!(!refused.retired_type_read());
+    for status in [7, 9, 16, 18, 255] {
+        let unknown = Outcome { status, ..refused };
+        assert_eq!(unknown.accepted(), Err(Refusal::Unknown { status }));
+    }
+}
+
+/// The limits of each unit by their bits, as document 02 makes them: 4096, 8192, 1/1024 and 0.005 times the unit, and four times
+/// the last.
+#[test]
+fn units() {
+    let bits = [
+        [
+            0x4580_0000,
+            0x4600_0000,
+            0x3a80_0000,
+            0x3ba3_d70a,
+            0x3ca3_d70a,
+        ],
+        [
+            0x4720_0000,
+            0x47a0_0000,
+            0x3c20_0000,
+            0x3d4c_cccc,
+            0x3e4c_cccc,
+        ],
+        [
+            0x48c8_0000,
+            0x4948_0000,
+            0x3dc8_0000,
+            0x3f00_0000,
+            0x4000_0000,
+        ],
+        [
+            0x4a7a_0000,
+            0x4afa_0000,
+            0x3f7a_0000,
+            0x40a0_0000,
+            0x41a0_0000,
+        ],
+    ];
+    let names = [
+        (1, "metres", "m"),
+        (10, "decimetres", "dm"),
+        (100, "centimetres", "cm"),
+        (1000, "millimetres", "mm"),
+    ];
+    assert_eq!(Unit::default(), Unit::Metres);
+    for (unit, (limits, (number, name, symbol))) in
+        Unit::ALL.into_iter().zip(bits.into_iter().zip(names))
+    {
+        let own = [
+            unit.farthest(),
+            unit.farthest_offset(),
+            unit.shortest_edge(),
+            unit.slop(),
+            unit.speculative_distance(),
+        ];
+        assert_eq!(own.map(f32::to_bits), limits, "{unit}");
+        assert_eq!((unit.per_metre(), unit.scale()), (number, number as f32));
+        assert_eq!(
+            (usize::from(unit), Unit::try_from(number)),
+            (number, Ok(unit))
+        );
+        assert_eq!((unit.to_string(), unit.symbol()), (name.into(), symbol));
+    }
+    for per_metre in [
+        0,
+        2,
+        5,
+        9,
+        11,
+        99,
+        101,
+        999,
+        1001,
+        10_000,
+        65_535,
+        usize::MAX,
+    ] {
+        let unknown = UnknownUnit { per_metre };
+        assert_eq!(Unit::try_from(per_metre), Err(unknown));
+        let words = format!("the unit is {per_metre} per metre, not 1, 10, 100 or 1000");
+        assert_eq!(unknown.to_string(), words);
+    }
 }
 
 /// An empty contact is zero but for its places, which are 255.
@@ -86,6 +171,7 @@ fn an_empty_contact() {
 #[test]
 fn lengths() {
     let size = |vertices, half_edges, faces| HullSize {
+        unit: 1,
         vertices,
         half_edges,
         faces,
@@ -97,6 +183,10 @@ fn lengths() {
     assert_eq!(size(0, 0, usize::MAX).numbers(), None);
     assert_eq!(size(0, usize::MAX, 0).links(), None);
     assert_eq!(size(usize::MAX, 0, 1).links(), None);
+    let other = HullSize { unit: 77, ..log };
+    assert_eq!((other.numbers(), other.links()), (Some(134), Some(326)));
+    assert_eq!(log.known_unit(), Ok(Unit::Metres));
+    assert_eq!(other.known_unit(), Err(UnknownUnit { per_metre: 77 }));
 }
 
 /// The header and the page of rules say what the refusals and the rules say here.

@@ -1,24 +1,60 @@
-//! The second validator, written from the documents alone: document 01's rules for a hull and for a transform and document
-//! 02's H9, one function a rule with the paper's sentence above it. The runs hold the proved validator to it.
+//! The second validator, written from the documents alone: document 01's rules for a hull and for a transform, document 02's H9
+//! and its units, one function a rule with the paper's sentence above it. The runs hold the proved validator to it.
 
 /// No hull has more half-edges.
 const MOST_HALF_EDGES: usize = 256;
 
-/// Coordinates, padding, the box and positions lie within this either way.
-const FARTHEST: f32 = 4096.0;
+/// "The hull rules' 4096, 8192 and 1/1024 are multiplied by it, as are .. the transform .. limits": by a hull's unit, and in a
+/// transform by that of both hulls. Every product is exact.
+#[derive(Debug, Clone, Copy)]
+pub struct Limits {
+    /// Coordinates, padding, the box and positions lie within this either way.
+    pub farthest: f32,
+    /// Offsets lie within this either way.
+    pub farthest_offset: f32,
+    /// The ends of an edge are this far apart on some axis.
+    pub shortest: f32,
+}
 
-/// Offsets lie within this either way.
-const FARTHEST_OFFSET: f32 = 8192.0;
+impl Limits {
+    pub fn of(unit: usize) -> Limits {
+        let times = |limit: f64| (limit * unit as f64) as f32;
+        Limits {
+            farthest: times(4096.0),
+            farthest_offset: times(8192.0),
+            shortest: times(1.0 / 1024.0),
+        }
+    }
+}
 
-/// The ends of an edge are this far apart on some axis.
-const SHORTEST: f32 = 1.0 / 1024.0;
+/// "1, 10, 100 or 1000 per metre".
+fn is_unit(unit: usize) -> bool {
+    [1, 10, 100, 1000].contains(&unit)
+}
 
-/// The number of the first rule that the hull breaks, 0 if none. Any lists and any sizes may be asked about.
+/// The number of the first rule that the hull breaks, 0 if none. Any lists, any unit and any sizes may be asked about.
 ///
 /// `numbers`: box low x, y, z; box high x, y, z; the x list, the y list, the z list, each padded to a multiple of four;
 /// then for each face its normal x, y, z and its offset. `links`: the stored edge of each vertex; next, twin, origin and
 /// face of each half-edge; the stored edge of each face.
 pub fn first_broken_rule(
+    numbers: &[f32],
+    links: &[u8],
+    unit: usize,
+    vertices: usize,
+    half_edges: usize,
+    faces: usize,
+) -> u8 {
+    if !is_unit(unit) {
+        return 1;
+    }
+    let limits = Limits::of(unit);
+    first_broken_rule_within(&limits, numbers, links, vertices, half_edges, faces)
+}
+
+/// The same by these limits, of a hull whose unit is not looked at.
+pub fn first_broken_rule_within(
+    limits: &Limits,
     numbers: &[f32],
     links: &[u8],
     vertices: usize,
@@ -41,7 +77,7 @@ pub fn first_broken_rule(
         6
     } else if !fans_hold_vertices(&hull) {
         7
-    } else if !floats_fit(&hull) {
+    } else if !floats_fit(&hull, limits) {
         8
     } else if !one_shell(&hull) {
         9
@@ -51,9 +87,10 @@ pub fn first_broken_rule(
 }
 
 /// "A transform is accepted when all is finite, its position is within 4096 on each axis and the squares of its
-/// quaternion sum to 0.99 to 1.01." The quaternion's scalar stands last.
-pub fn transform_accepted(position: [f32; 3], quaternion: [f32; 4]) -> bool {
-    position.iter().all(|&x| within(x, FARTHEST)) && nearly_unit(&quaternion)
+/// quaternion sum to 0.99 to 1.01." The 4096 is multiplied by the unit of both hulls; the quaternion's scalar stands last.
+pub fn transform_accepted(unit: usize, position: [f32; 3], quaternion: [f32; 4]) -> bool {
+    let farthest = Limits::of(unit).farthest;
+    position.iter().all(|&x| within(x, farthest)) && nearly_unit(&quaternion)
 }
 
 /// The parts of a hull whose lists have fitting lengths.
@@ -108,7 +145,7 @@ impl<'a> Hull<'a> {
     }
 }
 
-/// H1. "V 4 to 128, H even and 12 to 256, F 4 to 128, all lists of fitting length."
+/// H1. "V 4 to 128, H even and 12 to 256, F 4 to 128, all lists of fitting length"; "also for an unknown unit" ([`is_unit`]).
 fn sizes_fit(
     numbers: &[f32],
     links: &[u8],
@@ -211,22 +248,23 @@ fn walks_hold_all(
 
 /// H8. "All floats finite. Coordinates, padding and box within 4096 either way; every vertex inside the box. Offsets
 /// within 8192. The sum of squares of each normal is 0.99 to 1.01. For every edge some coordinate's rounded difference
-/// between its ends is 1/1024 or more either way." What lies within limits is finite.
-fn floats_fit(hull: &Hull) -> bool {
+/// between its ends is 1/1024 or more either way." What lies within limits is finite. The lengths go by the hull's own unit, the
+/// sums of squares do not.
+fn floats_fit(hull: &Hull, limits: &Limits) -> bool {
     let vertices = hull.vertex_edges.len();
-    let near = |list: &[f32]| list.iter().all(|&x| within(x, FARTHEST));
+    let near = |list: &[f32]| list.iter().all(|&x| within(x, limits.farthest));
     let inside = |axis: usize| {
         let (low, high) = (hull.low[axis], hull.high[axis]);
         let list = hull.coordinates[axis];
         list[..vertices].iter().all(|&x| low <= x && x <= high)
     };
     let plane_fits =
-        |plane: &[f32; 4]| within(plane[3], FARTHEST_OFFSET) && nearly_unit(&plane[..3]);
+        |plane: &[f32; 4]| within(plane[3], limits.farthest_offset) && nearly_unit(&plane[..3]);
     let long_enough = |edge: usize| {
         let (from, to) = (hull.origin(edge), hull.origin(edge + 1));
         hull.coordinates
             .iter()
-            .any(|list| (list[from] - list[to]).abs() >= SHORTEST)
+            .any(|list| (list[from] - list[to]).abs() >= limits.shortest)
     };
     near(hull.low)
         && near(hull.high)

@@ -23,7 +23,7 @@ use Rattle.axis_pairs.proofs.scan_rows.Tie as tie
 
 abbrev Inv-loop : tie.InvT-loop
 Inv-loop whole width directions n numbers links size normals turned points links-b size-b m table₀ along₀ list₀ out₀ lead₀ j₀ table along list out lead j =
-    (j ≤ m) × (lead ≡ leadAfter (λ i. rowPairs (edgeOfA size numbers links) n (edgeIn turned points size-b links-b i) i) noneOf j)
+    (j ≤ m) × (lead ≡ leadAfter (λ i. rowPairs (size .unit) (edgeOfA size numbers links) n (edgeIn turned points size-b links-b i) i) noneOf j)
     × (lead .apart ≡ false) × (length along ≡ 128) × (length list ≡ 128) × (length out ≡ 128) × (length table ≡ 1024)
     × (whole ≡ true → Table turned (size-b .faces) (vectorIn directions) width table)
 
@@ -32,7 +32,7 @@ abbrev μ-loop : tie.MeasureT-loop
 
 abbrev step : tie.Start Inv-loop μ-loop → ℕ → Lead → Lead
 step c = let a = c .args in
-    λ j. rowPairs (edgeOfA (a .size) (a .numbers .now) (a .links .now)) (a .n)
+    λ j. rowPairs (a .size .unit) (edgeOfA (a .size) (a .numbers .now) (a .links .now)) (a .n)
     (edgeIn (a .turned .now) (a .points .now) (a .size-b) (a .links-b .now) j) j
 
 -- where the loop was entered from, and the turn in which a row is scanned
@@ -50,7 +50,7 @@ turned c =
     let a = entry (turn c .before) .args in
     let b = c .before .before .before .before .before .before .before .before .before .before .before .edge-of-b in
     goes-on (step (entry (turn c .before))) noneOf (l .j) (l .lead) (c .scan-row .result) (l .inv .1) (l .inv .2)
-    (row-turn (edgeOfA (a .size) (a .numbers .now) (a .links .now)) (a .n) (edgeIn (a .turned .now) (a .points .now) (a .size-b)
+    (row-turn (a .size .unit) (edgeOfA (a .size) (a .numbers .now) (a .links .now)) (a .n) (edgeIn (a .turned .now) (a .points .now) (a .size-b)
     (a .links-b .now) (l .j)) (b .result) (l .j) (l .lead) (c .scan-row .result) (c .scan-row .ensures .0) (b .ensures))
 
 -- the half-edges of edge j, and their faces

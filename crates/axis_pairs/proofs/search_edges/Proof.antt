@@ -84,7 +84,7 @@ returns c =
     let s = directions .before .before .before .before .before .before .before .before .before in
     let a = s .args in
     pairs-same (a .r) (a .position) (a .size-b) (a .numbers-b .now) (a .links-b .now) _ _ (s .pre .3)
-    (turned .turned-normals .ensures) (points .turned-points .ensures) _ _
+    (turned .turned-normals .ensures) (points .turned-points .ensures) _ _ _
     (a .size-b .«half_edges» / 2) (c .scan .result) (c .scan .ensures) (omega arith)
 
 pub search-edges-spec : {M : Type 1} → statement M

@@ -18,7 +18,7 @@ use Rattle.axis_row.proofs.scan_list.Tie as tie
 
 abbrev Inv-loop : tie.InvT-loop
 Inv-loop table p q n numbers links size b j list left lead₀ k₀ lead k =
-    (k ≤ left) × (lead ≡ leadAfter (λ i. triedAt table p q (edgeOfA size numbers links) b j (getD list i 0)) lead₀ k) × (lead .apart ≡ false)
+    (k ≤ left) × (lead ≡ leadAfter (λ i. triedAt (size .unit) table p q (edgeOfA size numbers links) b j (getD list i 0)) lead₀ k) × (lead .apart ≡ false)
 
 abbrev μ-loop : tie.MeasureT-loop
 μ-loop table p q n numbers links size b j list left lead₀ k₀ lead k = left - k
@@ -29,7 +29,7 @@ low c = subst (λ (z : ℕ). z < c .before .before .before .before .before .befo
 
 abbrev step : tie.Start Inv-loop μ-loop → ℕ → Lead → Lead
 step c = let a = c .args in
-    λ i. triedAt (a .table .now) (a .p) (a .q) (edgeOfA (a .size) (a .numbers .now) (a .links .now)) (a .b) (a .j) (getD (a .list .now) i 0)
+    λ i. triedAt (a .size .unit) (a .table .now) (a .p) (a .q) (edgeOfA (a .size) (a .numbers .now) (a .links .now)) (a .b) (a .j) (getD (a .list .now) i 0)
 
 -- one turn more
 turned : (c : tie.After-tried Inv-loop μ-loop)
@@ -41,7 +41,7 @@ turned c =
     let l = c .before .before .before .before .before .before .before .loop in
     goes-on (step (c .before .before .before .before .before .before .before .before .before .before .before .before)) (a .start) (l .k)
     (l .lead) (c .tried .result) (l .inv .1) (l .inv .2)
-    (tries (a .table .now) (a .p) (a .q) (edgeOfA (a .size) (a .numbers .now) (a .links .now)) (a .b) (a .j) (getD (a .list .now) (l .k) 0)
+    (tries (a .size .unit) (a .table .now) (a .p) (a .q) (edgeOfA (a .size) (a .numbers .now) (a .links .now)) (a .b) (a .j) (getD (a .list .now) (l .k) 0)
     (c .before .before .before .before .wide .result) (c .before .before .before .edge-of-a .result) (l .lead) (c .tried .result)
     (c .tried .ensures) (c .before .before .before .edge-of-a .ensures) (c .before .before .before .before .wide .ensures))
 

@@ -17,8 +17,8 @@ use Rattle.axis_edges.specs.inner.Ready.{EdgesIn}
 use Rattle.axis_lists.specs.inner.Lists.{Three, Row}
 
 -- edge i of A, which has passed, against edge j of B; the dots of B's two normals stand in the table from p and from q on
-unfoldable pub triedAt : List Float → ℕ → ℕ → (ℕ → EdgeA) → EdgeB → ℕ → ℕ → Lead → Lead
-triedAt table p q a b j i lead = triedOf (getD table (p + i) nan) (getD table (q + i) nan) (a i) b i j lead
+unfoldable pub triedAt : ℕ → List Float → ℕ → ℕ → (ℕ → EdgeA) → EdgeB → ℕ → ℕ → Lead → Lead
+triedAt unit table p q a b j i lead = triedOf unit (getD table (p + i) nan) (getD table (q + i) nan) (a i) b i j lead
 
 -- what the scan of one edge of B asks for: of hull A, of the lists, and of the table
 pub record RowReady (s : HullSize) (n : List Float) (l : List ℕ) (count : ℕ) (normals : List Float) (b : EdgeB) (j : ℕ) (start : Lead)

@@ -4,7 +4,7 @@ use native.Mathlib.Omega.{arith}
 use lib.Ieee as Ieee
 use denote.Ref.{now}
 use Rattle.rotation.specs.Rotation.{invRotateOf, transformPointOf}
-use Rattle.manifold.specs.Limits.{speculative}
+use Rattle.units.specs.Limits.{speculative}
 use Rattle.collide_cached.specs.Again.{deepestBelowA, separationFromA}
 use Rattle.collide_cached.proofs.Cases.{at-support, support-byte, is-deepest, off-face, a-far, a-close}
 use borrow.Author.Needs.{needs}
@@ -23,7 +23,7 @@ vertex-is c = let g = c .before .before .before .before .before .before .before 
 
 test-is : (c : tie.After-speculative-distance) → let g =
     c .before .before .before .before .before .before .before .before .before .before .before .before .before .args in
-    Ieee.le (c .speculative-distance .result) (c .before .plane-separation .result) ≡ Ieee.le speculative
+    Ieee.le (c .speculative-distance .result) (c .before .plane-separation .result) ≡ Ieee.le (speculative (g .size-a .unit))
     (separationFromA (g .size-a) (now (g .numbers-a)) (g .size-b) (now (g .numbers-b)) (g .transform) (g .cache .«index_a»))
 unfolding separationFromA deepestBelowA
 test-is c = let z = c .before .before .before .before in
@@ -33,7 +33,7 @@ test-is c = let z = c .before .before .before .before in
     _ (z .before .before .before .plane-at .ensures) _ (z .before .before .inv-rotate-vector .ensures) _ (z .before .neg .ensures) _
     (z .support-vertex .ensures)
     _ (c .before .before .before .vertex-at .ensures) _ (c .before .before .transform-point .ensures) _ (c .before .plane-separation .ensures)
-    _ (c .speculative-distance .ensures)
+    _ _ (c .speculative-distance .ensures)
 
 cast-plane-at : tie.Need-cast-plane-at
 cast-plane-at c = search needs
@@ -80,7 +80,7 @@ cast-build-face-a-contact c = let b =
     omega (arith, b)
 
 build-face-a-contact-requires : tie.Need-build-face-a-contact-requires
-build-face-a-contact-requires c κs = search needs
+build-face-a-contact-requires c κs = c .before .before .before .before .before .before .before .before .before .before .before .before .before .before .pre
 
 served-requires : tie.Need-served-requires
 served-requires c κs = search needs

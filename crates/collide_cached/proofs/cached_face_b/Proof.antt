@@ -4,7 +4,7 @@ use native.Mathlib.Omega.{arith}
 use lib.Ieee as Ieee
 use denote.Ref.{now}
 use Rattle.rotation.specs.Rotation.{rotateOf, invTransformPointOf}
-use Rattle.manifold.specs.Limits.{speculative}
+use Rattle.units.specs.Limits.{speculative}
 use Rattle.collide_cached.specs.Again.{deepestBelowB, separationFromB}
 use Rattle.collide_cached.proofs.Cases.{at-support, support-byte, is-deepest, off-face, b-far, b-close}
 use borrow.Author.Needs.{needs}
@@ -22,7 +22,7 @@ vertex-is c = let g = c .before .before .before .before .before .before .before 
 
 test-is : (c : tie.After-speculative-distance) → let g =
     c .before .before .before .before .before .before .before .before .before .before .before .before .before .args in
-    Ieee.le (c .speculative-distance .result) (c .before .plane-separation .result) ≡ Ieee.le speculative
+    Ieee.le (c .speculative-distance .result) (c .before .plane-separation .result) ≡ Ieee.le (speculative (g .size-a .unit))
     (separationFromB (g .size-a) (now (g .numbers-a)) (g .size-b) (now (g .numbers-b)) (g .transform) (g .cache .«index_b»))
 unfolding separationFromB deepestBelowB
 test-is c = let z = c .before .before .before .before in
@@ -31,7 +31,7 @@ test-is c = let z = c .before .before .before .before in
     (g .cache .«index_b»)
     _ (z .before .before .before .plane-at .ensures) _ (z .before .before .rotate-vector .ensures) _ (z .before .neg .ensures) _ (z .support-vertex .ensures)
     _ (c .before .before .before .vertex-at .ensures) _ (c .before .before .inv-transform-point .ensures) _ (c .before .plane-separation .ensures)
-    _ (c .speculative-distance .ensures)
+    _ _ (c .speculative-distance .ensures)
 
 cast-plane-at : tie.Need-cast-plane-at
 cast-plane-at c = search needs
@@ -78,7 +78,7 @@ cast-build-face-b-contact c = let b =
     omega (arith, b)
 
 build-face-b-contact-requires : tie.Need-build-face-b-contact-requires
-build-face-b-contact-requires c κs = search needs
+build-face-b-contact-requires c κs = c .before .before .before .before .before .before .before .before .before .before .before .before .before .before .pre
 
 served-requires : tie.Need-served-requires
 served-requires c κs = search needs

@@ -13,7 +13,7 @@ tries-edge-requires c κs = search needs
 
 returns : tie.Need-returns
 returns c = let a = c .before .before .before .before .before .before .args in
-    let no : triesEdge (a .built) (a .edge) ≡ false = sym (c .before .tries-edge .ensures) ∙ not-true _ (c .if1 .taken) in
+    let no : triesEdge (a .size-a .unit) (a .built) (a .edge) ≡ false = sym (c .before .tries-edge .ensures) ∙ not-true _ (c .if1 .taken) in
     not-tried (a .size-a) (a .numbers-a .now) (a .links-a .now) (a .size-b) (a .numbers-b .now) (a .links-b .now) (a .transform) (a .built) (a .edge) no
 
 pair-contact-requires : tie.Need-pair-contact-requires
@@ -22,14 +22,16 @@ pair-contact-requires c κs = search needs
 returns-2 : tie.Need-returns-2
 returns-2 c = let a = c .before .before .before .before .before .before .before .before .args in
     let p = c .before .pair-contact in
-    let yes : triesEdge (a .built) (a .edge) ≡ true = sym (c .before .before .before .tries-edge .ensures) ∙ not-false _ (c .before .before .if1 .left) in
+    let yes : triesEdge (a .size-a .unit) (a .built) (a .edge) ≡ true = sym (c .before .before .before .tries-edge .ensures) ∙ not-false _
+    (c .before .before .if1 .left) in
     pair-instead (a .size-a) (a .numbers-a .now) (a .links-a .now) (a .size-b) (a .numbers-b .now) (a .links-b .now) (a .transform) (a .built)
     (a .edge) (p .result) (p .ensures) yes (c .if2 .taken)
 
 returns-3 : tie.Need-returns-3
 returns-3 c = let a = c .before .before .before .before .before .before .before .before .args in
     let p = c .before .pair-contact in
-    let yes : triesEdge (a .built) (a .edge) ≡ true = sym (c .before .before .before .tries-edge .ensures) ∙ not-false _ (c .before .before .if1 .left) in
+    let yes : triesEdge (a .size-a .unit) (a .built) (a .edge) ≡ true = sym (c .before .before .before .tries-edge .ensures) ∙ not-false _
+    (c .before .before .if1 .left) in
     pair-missed (a .size-a) (a .numbers-a .now) (a .links-a .now) (a .size-b) (a .numbers-b .now) (a .links-b .now) (a .transform) (a .built)
     (a .edge) (p .result) (p .ensures) yes (c .if2 .left)
 

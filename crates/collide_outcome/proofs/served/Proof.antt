@@ -21,7 +21,7 @@ no-hit-requires c κs = search needs
 returns : tie.Need-returns
 returns c = let g = c .before .before .before .args in
     let refused : eqb (g .built .status) 0 ≡ false = ne-eqb _ 0 (c .before .if1 .taken) in
-    c .no-hit .ensures ∙ stays-refused (g .cache) (g .built) refused
+    c .no-hit .ensures ∙ stays-refused (g .unit) (g .cache) (g .built) refused
 
 no-hit-requires-2 : tie.Need-no-hit-requires-2
 no-hit-requires-2 c κs = search needs
@@ -29,7 +29,7 @@ no-hit-requires-2 c κs = search needs
 returns-2 : tie.Need-returns-2
 returns-2 c = let g = c .before .before .before .before .before .args in
     let no : g .built .touching ≡ false = not-true _ (c .before .if2 .taken) in
-    c .no-hit2 .ensures ∙ not-touching (g .cache) (g .built) (built-well (c .before .before .before)) no
+    c .no-hit2 .ensures ∙ not-touching (g .unit) (g .cache) (g .built) (built-well (c .before .before .before)) no
 
 near-requires : tie.Need-near-requires
 near-requires c κs = search needs
@@ -40,7 +40,7 @@ hit-with-requires c κs = search needs
 returns-3 : tie.Need-returns-3
 returns-3 c = let t = c .before .before .before .before .before in
     let g = t .before .before .before .before .args in
-    c .hit-with .ensures ∙ still-near (g .cache) (g .built) (built-well (t .before .before)) (touches t)
+    c .hit-with .ensures ∙ still-near (g .unit) (g .cache) (g .built) (built-well (t .before .before)) (touches t)
     (sym (c .before .before .before .near .ensures) ∙ c .before .before .if3 .taken)
 
 no-hit-requires-3 : tie.Need-no-hit-requires-3
@@ -49,7 +49,7 @@ no-hit-requires-3 c κs = search needs
 returns-4 : tie.Need-returns-4
 returns-4 c = let t = c .before .before .before .before in
     let g = t .before .before .before .before .args in
-    c .no-hit3 .ensures ∙ moved-off (g .cache) (g .built) (built-well (t .before .before)) (touches t) (sym (c .before .before .near .ensures)
+    c .no-hit3 .ensures ∙ moved-off (g .unit) (g .cache) (g .built) (built-well (t .before .before)) (touches t) (sym (c .before .before .near .ensures)
     ∙ c .before .if3 .left)
 
 pub served-spec : {M : Type 1} → statement M

@@ -8,12 +8,12 @@ use Rattle.hull_limits.proofs.plane_right.Tie as tie
 is-near-one-requires : tie.Need-is-near-one-requires
 is-near-one-requires c κs = search needs
 
-is-moderate-requires : tie.Need-is-moderate-requires
-is-moderate-requires c κs = search needs
+is-within-requires : tie.Need-is-within-requires
+is-within-requires c κs = search needs
 
 returns : tie.Need-returns
 unfolding planeRight
-returns c = and2 (c .before .is-near-one .ensures) (c .is-moderate .ensures)
+returns c = and2 (c .before .is-near-one .ensures) (c .is-within .ensures)
 
 pub plane-right-spec : {M : Type 1} → statement M
-plane-right-spec = tie.close (tie.spec is-near-one-requires is-moderate-requires returns)
+plane-right-spec = tie.close (tie.spec is-near-one-requires is-within-requires returns)

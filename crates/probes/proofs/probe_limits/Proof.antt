@@ -15,13 +15,27 @@ huge-requires c κs = search needs
 get-length-units-per-meter-requires : tie.Need-get-length-units-per-meter-requires
 get-length-units-per-meter-requires c κs = search needs
 
+coordinate-limit-requires : tie.Need-coordinate-limit-requires
+coordinate-limit-requires c κs = search needs
+
+offset-limit-requires : tie.Need-offset-limit-requires
+offset-limit-requires c κs = search needs
+
+edge-limit-requires : tie.Need-edge-limit-requires
+edge-limit-requires c κs = search needs
+
 returns : tie.Need-returns
-returns c = simp (
-  c .get-length-units-per-meter .ensures,
-  c .before .huge .ensures,
-  c .before .before .speculative-distance .ensures,
-  c .before .before .before .linear-slop .ensures,
-)
+returns c =
+    let later = c .before .before .before in
+    simp (
+      c .edge-limit .ensures,
+      c .before .offset-limit .ensures,
+      c .before .before .coordinate-limit .ensures,
+      later .get-length-units-per-meter .ensures,
+      later .before .huge .ensures,
+      later .before .before .speculative-distance .ensures,
+      later .before .before .before .linear-slop .ensures,
+    )
 
 pub probe-limits-spec : {M : Type 1} → statement M
 probe-limits-spec =
@@ -31,4 +45,7 @@ probe-limits-spec =
     speculative-distance-requires
     huge-requires
     get-length-units-per-meter-requires
+    coordinate-limit-requires
+    offset-limit-requires
+    edge-limit-requires
     returns)

@@ -1,7 +1,7 @@
 -- `picked`: each loop's best is the best of the first i that are left, by the definition; what a search finds is read at its place, and is what the
 -- definition picks.
 use Prim.Native.Nat.{ℕ, _-_, _≤_, _<_}
-use mathlib.Core.Path.{_≡_, refl, sym, ap, ap₂, _∙_}
+use mathlib.Core.Path.{_≡_, refl, ap, ap₂, _∙_}
 use mathlib.Core.Bool.{false}
 use mathlib.Core.List.{List, [], _∷_}
 use native.Mathlib.Omega.{arith}
@@ -24,37 +24,37 @@ use Rattle.reduce.specs.Reduce.{tolerance, standing, taken, firstBest, s
 use Rattle.reduce.specs.Reduce.{fourthPicks}
 use Rattle.reduce.proofs.Standing.{left, stands, stands-third, place-low, read-left, point-left, length-left-of}
 use Rattle.reduce.proofs.Answers.{nothing, secondTurn, thirdTurn, fourthTurn, search-turn, search-end, first-low, second-low, third-low}
-use Rattle.reduce.proofs.Answers.{fourth-low, third-end, fourth-end, folded}
+use Rattle.reduce.proofs.Answers.{fourth-low, third-end, fourth-end}
 use Rattle.reduce.proofs.Picks.{no-first, a-first, no-second, a-second, no-third, a-third, no-fourth, a-fourth}
 use Rattle.reduce.proofs.picked.Statement.{statement}
 use Rattle.reduce.proofs.picked.Tie as tie
 
 abbrev Inv-loop : tie.InvT-loop
-Inv-loop normal direction images n first₀ i₀ first i = (i ≤ n) × (first ≡ over (firstTurn direction) (nothing (neg largest)) (cornersOf images) i)
+Inv-loop normal direction far images n first₀ i₀ first i = (i ≤ n) × (first ≡ over (firstTurn far direction) (nothing (neg largest)) (cornersOf images) i)
 
 abbrev μ-loop : tie.MeasureT-loop
-μ-loop normal direction images n first₀ i₀ first i = n - i
+μ-loop normal direction far images n first₀ i₀ first i = n - i
 
 abbrev Inv-loop2 : tie.InvT-loop2
-Inv-loop2 normal images n i j1 p1 a left2 second₀ i2₀ second i2 =
+Inv-loop2 normal far images n i j1 p1 a left2 second₀ i2₀ second i2 =
     (i2 ≤ left2) × (second ≡ over (secondTurn normal a) (nothing (float 0)) (left pastVertex (cornersOf images) (j1 ∷ [])) i2)
 
 abbrev μ-loop2 : tie.MeasureT-loop2
-μ-loop2 normal images n i j1 p1 a left2 second₀ i2₀ second i2 = left2 - i2
+μ-loop2 normal far images n i j1 p1 a left2 second₀ i2₀ second i2 = left2 - i2
 
 abbrev Inv-loop3 : tie.InvT-loop3
-Inv-loop3 normal images n i j1 p1 a left2 i2 j2 place2 p2 b ba left3 third₀ i3₀ third i3 =
-    (i3 ≤ left3) × (third ≡ over (thirdTurn normal a ba) (nothing tolerance) (left pastVertex (cornersOf images) (j1 ∷ j2 ∷ [])) i3)
+Inv-loop3 normal far images n i j1 p1 a left2 i2 j2 place2 p2 b ba left3 third₀ i3₀ third i3 =
+    (i3 ≤ left3) × (third ≡ over (thirdTurn normal a ba) (nothing (tolerance far)) (left pastVertex (cornersOf images) (j1 ∷ j2 ∷ [])) i3)
 
 abbrev μ-loop3 : tie.MeasureT-loop3
-μ-loop3 normal images n i j1 p1 a left2 i2 j2 place2 p2 b ba left3 third₀ i3₀ third i3 = left3 - i3
+μ-loop3 normal far images n i j1 p1 a left2 i2 j2 place2 p2 b ba left3 third₀ i3₀ third i3 = left3 - i3
 
 abbrev Inv-loop4 : tie.InvT-loop4
-Inv-loop4 normal images n i j1 p1 left2 i2 j2 place2 p2 left3 i3 j3 place3 p3 t left4 fourth₀ i4₀ fourth i4 =
-    (i4 ≤ left4) × (fourth ≡ over (fourthTurn normal t) (nothing tolerance) (left pastVertex (cornersOf images) (j1 ∷ j2 ∷ j3 ∷ [])) i4)
+Inv-loop4 normal far images n i j1 p1 left2 i2 j2 place2 p2 left3 i3 j3 place3 p3 t left4 fourth₀ i4₀ fourth i4 =
+    (i4 ≤ left4) × (fourth ≡ over (fourthTurn normal t) (nothing (tolerance far)) (left pastVertex (cornersOf images) (j1 ∷ j2 ∷ j3 ∷ [])) i4)
 
 abbrev μ-loop4 : tie.MeasureT-loop4
-μ-loop4 normal images n i j1 p1 left2 i2 j2 place2 p2 left3 i3 j3 place3 p3 t left4 fourth₀ i4₀ fourth i4 = left4 - i4
+μ-loop4 normal far images n i j1 p1 left2 i2 j2 place2 p2 left3 i3 j3 place3 p3 t left4 fourth₀ i4₀ fourth i4 = left4 - i4
 
 -- ---- where the code stands: at the start, and once the places of one, two, three and four picks are known
 abbrev Start : Type 0
@@ -142,7 +142,7 @@ p3 c = pointAt (start3 c) (c .standing22 .result)
 
 -- what the definition takes of all
 abbrev all : Start → List Point
-all c = taken pastPoint (firstPicks (c .args .direction) (c .args .normal) (cornersOf (c .args .t1))) (placed (cornersOf (c .args .t1)))
+all c = taken pastPoint (firstPicks (c .args .far) (c .args .direction) (c .args .normal) (cornersOf (c .args .t1))) (placed (cornersOf (c .args .t1)))
 
 -- ---- any search: what it finds lies below the number left, and its place below 64
 long : (c : Start) → c .args .t1 .count ≤ length (c .args .t1 .vertices)
@@ -164,28 +164,28 @@ says c = point-left (c .args .t1 .vertices) (c .args .t1 .count) (long c)
 
 -- ---- the first search and its pick
 first-is : (c : tie.After-loop Inv-loop μ-loop Inv-loop2 μ-loop2 Inv-loop3 μ-loop3 Inv-loop4 μ-loop4)
-    → c .before .loop .first ≡ firstBest (c .before .before .args .direction) (cornersOf (c .before .before .args .t1))
+    → c .before .loop .first ≡ firstBest (c .before .before .args .far) (c .before .before .args .direction) (cornersOf (c .before .before .args .t1))
 unfolding firstBest
 first-is c =
     let start = c .before .before in
     let a = start .args in
     let l = c .before .loop in
-    search-end (firstTurn (a .direction)) (nothing (neg largest)) (a .t1 .vertices) (a .t1 .count) (long start) [] (l .first) (l .i)
+    search-end (firstTurn (a .far) (a .direction)) (nothing (neg largest)) (a .t1 .vertices) (a .t1 .count) (long start) [] (l .first) (l .i)
     (omega (arith, l .inv .0)) (omega (arith, c .loop-test .left)) (l .inv .1)
 
 first-index : (c : One) → j1 c < start1 c .args .t1 .count - 0
 first-index c =
     let a = start1 c .args in
-    index-low (start1 c) [] (j1 c) (first-low (a .direction) (cornersOf (a .t1)) (c .before .before .before .loop .first)
+    index-low (start1 c) [] (j1 c) (first-low (a .far) (a .direction) (cornersOf (a .t1)) (c .before .before .before .loop .first)
     (first-is (c .before .before)) (not-false _ (c .if1 .left)))
 
-one-taken : (c : One) → p1 c ∷ taken pastPoint (secondPicks (start1 c .args .normal) (v1 c) (rest (start1 c) (js1 c)))
+one-taken : (c : One) → p1 c ∷ taken pastPoint (secondPicks (start1 c .args .far) (start1 c .args .normal) (v1 c) (rest (start1 c) (js1 c)))
     (restPoints (start1 c) (js1 c)) ≡ all (start1 c)
 one-taken c =
     let start = start1 c in
     let a = start .args in
     let best = c .before .before .before .loop .first in
-    a-first (a .normal) (a .direction) (cornersOf (a .t1)) (placed (cornersOf (a .t1))) best (first-is (c .before .before)) (v1 c) (p1 c)
+    a-first (a .far) (a .normal) (a .direction) (cornersOf (a .t1)) (placed (cornersOf (a .t1))) best (first-is (c .before .before)) (v1 c) (p1 c)
     (reads start [] (best .index) (best .index) (first-index c) refl) (says start [] (best .index) (best .index) (first-index c) refl)
     (not-false _ (c .if1 .left))
 
@@ -210,11 +210,8 @@ second-is c =
     (l .second) (l .i2) (l .inv .0) (c .loop2-test .left) (l .inv .1)
 
 enough : (c : tie.Else2 Inv-loop μ-loop Inv-loop2 μ-loop2 Inv-loop3 μ-loop3 Inv-loop4 μ-loop4)
-    → lt (c .before .before .before .loop2 .second .score) tolerance ≡ false
-enough c =
-    let score = c .before .before .before .loop2 .second .score in
-    let above : lt score (float 0x39d1_b717) ≡ false = c .if2 .left in
-    ap (lt score) (sym folded) ∙ above
+    → lt (c .before .before .before .loop2 .second .score) (tolerance (start1 (c .before .before .before .before .before .before .before) .args .far)) ≡ false
+enough c = c .if2 .left
 
 second-index : (c : tie.Else2 Inv-loop μ-loop Inv-loop2 μ-loop2 Inv-loop3 μ-loop3 Inv-loop4 μ-loop4)
     → c .before .before .before .loop2 .second .index < start1 (c .before .before .before .before .before .before .before) .args .t1 .count - 1
@@ -222,20 +219,23 @@ second-index c =
     let first = c .before .before .before .before .before .before .before in
     let start = start1 first in
     let best = c .before .before .before .loop2 .second in
-    index-low start (js1 first) (best .index) (second-low (start .args .normal) (v1 first .position) (rest start (js1 first)) best
+    index-low start (js1 first) (best .index) (second-low (tolerance (start .args .far)) (start .pre .2) (start .args .normal) (v1 first .position)
+    (rest start (js1 first)) best
     (second-is (c .before .before)) (enough c))
 
 two-low : (c : Two) → c .standing12 .result < 64
 two-low c = low (start2 c) (js1 (one c)) (j2 c) (c .standing12 .result) (second-index (c .before)) (c .standing12 .ensures)
 
-two-taken : (c : Two) → p1 (one c) ∷ p2 c ∷ taken pastPoint (thirdPicks (start2 c .args .normal) (v1 (one c)) (v2 c) (rest (start2 c) (js2 c)))
+two-taken : (c : Two) → p1 (one c) ∷ p2 c ∷ taken pastPoint (thirdPicks (start2 c .args .far) (start2 c .args .normal) (v1 (one c)) (v2 c)
+    (rest (start2 c) (js2 c)))
     (restPoints (start2 c) (js2 c)) ≡ all (start2 c)
 two-taken c =
     let start = start2 c in
     let js = js1 (one c) in
     let best = c .before .before .before .before .loop2 .second in
     ap (λ (ps : List Point). p1 (one c) ∷ ps)
-    (a-second (start .args .normal) (v1 (one c)) (rest start js) (restPoints start js) best (second-is (c .before .before .before)) (v2 c) (p2 c)
+    (a-second (start .args .far) (start .args .normal) (v1 (one c)) (rest start js) (restPoints start js) best (second-is (c .before .before .before)) (v2 c)
+    (p2 c)
     (reads start js (best .index) (c .standing12 .result) (second-index (c .before)) (c .standing12 .ensures))
     (says start js (best .index) (c .standing12 .result) (second-index (c .before)) (c .standing12 .ensures)) (enough (c .before)))
     ∙ one-taken (one c)
@@ -247,16 +247,17 @@ turn3-low c = let second = c .before .before .before .before .before .before .be
 
 third-is : (c : tie.After-loop3 Inv-loop μ-loop Inv-loop2 μ-loop2 Inv-loop3 μ-loop3 Inv-loop4 μ-loop4)
     → let second = c .before .before .before .before .before .before in
-    c .before .loop3 .third ≡ thirdBest (start2 second .args .normal) tolerance (v1 (one second) .position) (v2 second .position)
+    c .before .loop3 .third ≡ thirdBest (start2 second .args .normal) (tolerance (start2 second .args .far)) (v1 (one second) .position) (v2 second .position)
     (rest (start2 second) (js2 second))
 third-is c =
     let second = c .before .before .before .before .before .before in
     let start = start2 second in
     let a = start .args in
     let l = c .before .loop3 in
-    third-end (a .normal) (v1 (one second) .position) (v2 second .position) (c .before .before .sub .result) (rest start (js2 second)) (l .third)
+    third-end (tolerance (a .far)) (a .normal) (v1 (one second) .position) (v2 second .position) (c .before .before .sub .result) (rest start (js2 second))
+    (l .third)
     (c .before .before .sub .ensures)
-    (search-end (thirdTurn (a .normal) (v1 (one second) .position) (c .before .before .sub .result)) (nothing tolerance) (a .t1 .vertices)
+    (search-end (thirdTurn (a .normal) (v1 (one second) .position) (c .before .before .sub .result)) (nothing (tolerance (a .far))) (a .t1 .vertices)
     (a .t1 .count) (long start) (js2 second) (l .third) (l .i3) (l .inv .0) (c .loop3-test .left) (l .inv .1))
 
 third-index : (c : tie.Else3 Inv-loop μ-loop Inv-loop2 μ-loop2 Inv-loop3 μ-loop3 Inv-loop4 μ-loop4)
@@ -265,21 +266,22 @@ third-index c =
     let second = c .before .before .before .before .before .before .before .before in
     let start = start2 second in
     let best = c .before .before .before .loop3 .third in
-    index-low start (js2 second) (best .index) (third-low (start .args .normal) (v1 (one second) .position) (v2 second .position)
+    index-low start (js2 second) (best .index) (third-low (tolerance (start .args .far)) (start .args .normal) (v1 (one second) .position) (v2 second .position)
     (rest start (js2 second)) best (third-is (c .before .before)) (not-false _ (c .if3 .left)))
 
 three-low : (c : Three) → c .standing22 .result < 64
 three-low c = low (start3 c) (js2 (two c)) (j3 c) (c .standing22 .result) (third-index (c .before)) (c .standing22 .ensures)
 
 three-taken : (c : Three) → p1 (one (two c)) ∷ p2 (two c) ∷ p3 c
-    ∷ taken pastPoint (fourthPicks (start3 c .args .normal) (v1 (one (two c))) (v2 (two c)) (v3 c) (rest (start3 c) (js3 c)))
+    ∷ taken pastPoint (fourthPicks (start3 c .args .far) (start3 c .args .normal) (v1 (one (two c))) (v2 (two c)) (v3 c) (rest (start3 c) (js3 c)))
     (restPoints (start3 c) (js3 c)) ≡ all (start3 c)
 three-taken c =
     let start = start3 c in
     let js = js2 (two c) in
     let best = c .before .before .before .before .loop3 .third in
     ap (λ (ps : List Point). p1 (one (two c)) ∷ p2 (two c) ∷ ps)
-    (a-third (start .args .normal) (v1 (one (two c))) (v2 (two c)) (rest start js) (restPoints start js) best (third-is (c .before .before .before))
+    (a-third (start .args .far) (start .args .normal) (v1 (one (two c))) (v2 (two c)) (rest start js) (restPoints start js) best
+    (third-is (c .before .before .before))
     (v3 c) (p3 c) (reads start js (best .index) (c .standing22 .result) (third-index (c .before)) (c .standing22 .ensures))
     (says start js (best .index) (c .standing22 .result) (third-index (c .before)) (c .standing22 .ensures)) (not-false _ (c .before .if3 .left)))
     ∙ two-taken (two c)
@@ -305,15 +307,15 @@ triangle-is c = c .first-three .ensures
 
 fourth-is : (c : tie.After-loop4 Inv-loop μ-loop Inv-loop2 μ-loop2 Inv-loop3 μ-loop3 Inv-loop4 μ-loop4)
     → let third = c .before .before .before .before .before in
-    c .before .loop4 .fourth ≡ fourthBest (start3 third .args .normal) tolerance (triangle third) (rest (start3 third) (js3 third))
+    c .before .loop4 .fourth ≡ fourthBest (start3 third .args .normal) (tolerance (start3 third .args .far)) (triangle third) (rest (start3 third) (js3 third))
 fourth-is c =
     let third = c .before .before .before .before .before in
     let start = start3 third in
     let a = start .args in
     let l = c .before .loop4 in
-    fourth-end (a .normal) (triangle third) (c .before .before .first-three .result) (rest start (js3 third)) (l .fourth)
+    fourth-end (tolerance (a .far)) (a .normal) (triangle third) (c .before .before .first-three .result) (rest start (js3 third)) (l .fourth)
     (triangle-is (c .before .before))
-    (search-end (fourthTurn (a .normal) (c .before .before .first-three .result)) (nothing tolerance) (a .t1 .vertices) (a .t1 .count)
+    (search-end (fourthTurn (a .normal) (c .before .before .first-three .result)) (nothing (tolerance (a .far))) (a .t1 .vertices) (a .t1 .count)
     (long start) (js3 third) (l .fourth) (l .i4) (l .inv .0) (c .loop4-test .left) (l .inv .1))
 
 fourth-index : (c : tie.Else4 Inv-loop μ-loop Inv-loop2 μ-loop2 Inv-loop3 μ-loop3 Inv-loop4 μ-loop4)
@@ -322,7 +324,7 @@ fourth-index c =
     let third = c .before .before .before .before .before .before .before in
     let start = start3 third in
     let best = c .before .before .before .loop4 .fourth in
-    index-low start (js3 third) (best .index) (fourth-low (start .args .normal) (triangle third) (rest start (js3 third)) best
+    index-low start (js3 third) (best .index) (fourth-low (tolerance (start .args .far)) (start .args .normal) (triangle third) (rest start (js3 third)) best
     (fourth-is (c .before .before)) (not-false _ (c .if4 .left)))
 
 four-low : (c : Four) → c .standing32 .result < 64
@@ -341,7 +343,7 @@ four-taken c =
     let js = js3 third in
     let best = c .before .before .before .before .loop4 .fourth in
     ap (λ (ps : List Point). p1 (one second) ∷ p2 second ∷ p3 third ∷ ps)
-    (a-fourth (start .args .normal) (v1 (one second)) (v2 second) (v3 third) (rest start js) (restPoints start js) best
+    (a-fourth (start .args .far) (start .args .normal) (v1 (one second)) (v2 second) (v3 third) (rest start js) (restPoints start js) best
     (fourth-is (c .before .before .before)) (pointAt start (c .standing32 .result))
     (says start js (best .index) (c .standing32 .result) (fourth-index (c .before))
     (place4 third (best .index) (c .standing32 .result) (c .standing32 .ensures))) (not-false _ (c .before .if4 .left)))
@@ -367,7 +369,7 @@ told3 : (c : tie.After-point-of3 Inv-loop μ-loop Inv-loop2 μ-loop2 Inv-loop3 �
 told3 c = c .point-of3 .ensures
 
 loop-holds : tie.Need-loop-holds Inv-loop μ-loop Inv-loop2 μ-loop2 Inv-loop3 μ-loop3 Inv-loop4 μ-loop4
-loop-holds c = (omega arith, start-over (firstTurn (c .args .direction)) (nothing (neg largest)) (cornersOf (c .args .t1)))
+loop-holds c = (omega arith, start-over (firstTurn (c .args .far) (c .args .direction)) (nothing (neg largest)) (cornersOf (c .args .t1)))
 
 mul-v : tie.Need-mul-v Inv-loop μ-loop Inv-loop2 μ-loop2 Inv-loop3 μ-loop3 Inv-loop4 μ-loop4
 mul-v c = omega (arith, c .loop-test .taken, c .before .before .pre .0)
@@ -390,7 +392,7 @@ loop-again c =
     let a = start .args in
     let l = c .before .before .before .loop in (
       omega (arith, c .before .before .loop-test .taken),
-      search-turn (firstTurn (a .direction)) (nothing (neg largest)) (a .t1 .vertices) (a .t1 .count) (long start) [] (l .first)
+      search-turn (firstTurn (a .far) (a .direction)) (nothing (neg largest)) (a .t1 .vertices) (a .t1 .count) (long start) [] (l .first)
           (c .first-turn .result) (l .i) (l .i)
           (omega (arith, c .before .before .loop-test .taken)) refl (l .inv .1) (c .first-turn .ensures),
     )
@@ -404,7 +406,7 @@ returns c =
     let start = c .before .before .before .before .before in
     let a = start .args in
     c .empty-contact .ensures
-    ∙ ap (contactOf (a .normal)) (no-first (a .normal) (a .direction) (cornersOf (a .t1)) (placed (cornersOf (a .t1)))
+    ∙ ap (contactOf (a .normal)) (no-first (a .far) (a .normal) (a .direction) (cornersOf (a .t1)) (placed (cornersOf (a .t1)))
     (c .before .before .before .before .loop .first) (first-is (c .before .before .before)) (not-true _ (c .before .if1 .taken)))
 
 mul-v1 : tie.Need-mul-v1 Inv-loop μ-loop Inv-loop2 μ-loop2 Inv-loop3 μ-loop3 Inv-loop4 μ-loop4
@@ -478,8 +480,8 @@ returns-2 c =
     let best = c .before .before .before .before .loop2 .second in
     c .one-point .ensures
     ∙ ap (contactOf (a .normal))
-    (ap₂ _∷_ (told1 point) (no-second (a .normal) (v1 first) (rest (start1 first) (js1 first)) (restPoints (start1 first) (js1 first)) best
-    (second-is (c .before .before .before)) (ap (lt (best .score)) (sym folded) ∙ c .before .if2 .taken))
+    (ap₂ _∷_ (told1 point) (no-second (a .far) (a .normal) (v1 first) (rest (start1 first) (js1 first)) (restPoints (start1 first) (js1 first)) best
+    (second-is (c .before .before .before)) (c .before .if2 .taken))
     ∙ one-taken first)
 
 standing1-requires-2 : tie.Need-standing1-requires-2 Inv-loop μ-loop Inv-loop2 μ-loop2 Inv-loop3 μ-loop3 Inv-loop4 μ-loop4
@@ -508,8 +510,8 @@ loop3-holds c =
     let second = c .before .before .before .before in
     let start = start2 second in (
       omega arith,
-      ap nothing folded ∙ start-over (thirdTurn (start .args .normal) (v1 (one second) .position) (c .sub .result))
-          (nothing tolerance) (rest start (js2 second)),
+      start-over (thirdTurn (start .args .normal) (v1 (one second) .position) (c .sub .result)) (nothing (tolerance (start .args .far)))
+          (rest start (js2 second)),
     )
 
 standing2-requires : tie.Need-standing2-requires Inv-loop μ-loop Inv-loop2 μ-loop2 Inv-loop3 μ-loop3 Inv-loop4 μ-loop4
@@ -554,7 +556,7 @@ loop3-again c =
     c .before .abs-float .ensures ∙ ap absOf own
     in (
       omega (arith, read .before .loop3-test .taken),
-      search-turn (thirdTurn (a .normal) (v1 (one second) .position) (read .before .before .before .sub .result)) (nothing tolerance)
+      search-turn (thirdTurn (a .normal) (v1 (one second) .position) (read .before .before .before .sub .result)) (nothing (tolerance (a .far)))
           (a .t1 .vertices) (a .t1 .count) (long start) (js2 second) (l .third) (c .as-good .result) (l .i3)
           (read .standing2 .result) (read .before .loop3-test .taken) (read .standing2 .ensures) (l .inv .1)
           (c .as-good .ensures ∙ ap (asGoodOf (l .third) (l .i3)) area),
@@ -570,7 +572,7 @@ returns-3 c =
     let a = start2 second .args in
     c .two-points .ensures
     ∙ ap (contactOf (a .normal))
-    (ap₂ _∷_ (told1 (made1 second)) (ap₂ _∷_ (told2 point) (no-third (a .normal) (v1 (one second)) (v2 second) (rest (start2 second) (js2 second))
+    (ap₂ _∷_ (told1 (made1 second)) (ap₂ _∷_ (told2 point) (no-third (a .far) (a .normal) (v1 (one second)) (v2 second) (rest (start2 second) (js2 second))
     (restPoints (start2 second) (js2 second)) (c .before .before .before .before .loop3 .third) (third-is (c .before .before .before))
     (not-true _ (c .before .if3 .taken))))
     ∙ two-taken second)
@@ -600,7 +602,7 @@ loop4-holds : tie.Need-loop4-holds Inv-loop μ-loop Inv-loop2 μ-loop2 Inv-loop3
 loop4-holds c =
     let third = c .before .before .before in
     let start = start3 third in
-    (omega arith, ap nothing folded ∙ start-over (fourthTurn (start .args .normal) (c .first-three .result)) (nothing tolerance) (rest start (js3 third)))
+    (omega arith, start-over (fourthTurn (start .args .normal) (c .first-three .result)) (nothing (tolerance (start .args .far))) (rest start (js3 third)))
 
 standing3-requires : tie.Need-standing3-requires Inv-loop μ-loop Inv-loop2 μ-loop2 Inv-loop3 μ-loop3 Inv-loop4 μ-loop4
 standing3-requires c κs = omega (arith, start3 (c .before .before .before .before .before) .pre .1)
@@ -635,7 +637,7 @@ loop4-again c =
     let start = start3 third in
     let a = start .args in (
       omega (arith, read .before .loop4-test .taken),
-      search-turn (fourthTurn (a .normal) (read .before .before .before .first-three .result)) (nothing tolerance) (a .t1 .vertices)
+      search-turn (fourthTurn (a .normal) (read .before .before .before .first-three .result)) (nothing (tolerance (a .far))) (a .t1 .vertices)
           (a .t1 .count) (long start) (js3 third) (l .fourth) (c .better2 .result) (l .i4)
           (read .standing3 .result) (read .before .loop4-test .taken) (place4 third (l .i4) (read .standing3 .result) (read .standing3 .ensures)) (l .inv .1)
           (c .better2 .ensures ∙ ap (betterPickOf (l .fourth) (l .i4)) (c .before .outside .ensures)),
@@ -653,7 +655,7 @@ returns-4 c =
     c .three-points .ensures
     ∙ ap (contactOf (a .normal))
     (ap₂ _∷_ (told1 (made1 second)) (ap₂ _∷_ (told2 (made2 third)) (ap₂ _∷_ (told3 point)
-    (no-fourth (a .normal) (v1 (one second)) (v2 second) (v3 third) (rest (start3 third) (js3 third)) (restPoints (start3 third) (js3 third))
+    (no-fourth (a .far) (a .normal) (v1 (one second)) (v2 second) (v3 third) (rest (start3 third) (js3 third)) (restPoints (start3 third) (js3 third))
     (c .before .before .before .before .loop4 .fourth) (fourth-is (c .before .before .before)) (not-true _ (c .before .if4 .taken)))))
     ∙ three-taken third)
 

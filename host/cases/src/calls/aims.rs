@@ -4,10 +4,10 @@ use super::caches::{any, naming, NAMING};
 use super::Work;
 use crate::inputs::rounded;
 use crate::shapes::solids::frame;
-use crate::{convert, Numbers, SLOP, SPECULATIVE};
+use crate::{convert, Numbers};
 use oracle::math_functions::mul_add;
 use oracle::transcribed::End;
-use records::{HullSize, SatCache};
+use records::{HullSize, SatCache, Unit};
 
 /// Any type that acts as type 0 and is not retired.
 pub fn of_full_search(n: &mut Numbers) -> SatCache {
@@ -39,21 +39,22 @@ pub fn aimed(work: &Work, a: HullSize, b: HullSize, n: &mut Numbers) -> SatCache
         _ => {}
     }
     if let Some(End::Touching(separation)) = work.again(cache).map(|again| again.end) {
-        cache.separation = near(separation, n);
+        cache.separation = near(separation, work.unit, n);
     }
     cache
 }
 
-/// At this separation, near it, at the slop from it, a float beside that, or any bits.
-pub fn near(there: f32, n: &mut Numbers) -> u32 {
-    let slop = [SLOP, -SLOP][n.below(2)];
+/// At this separation, near it, at the unit's slop from it, a float beside that, or any bits.
+pub fn near(there: f32, unit: Unit, n: &mut Numbers) -> u32 {
+    let slop = unit.slop();
+    let at_slop = there + [slop, -slop][n.below(2)];
     let near = match n.below(8) {
         0 | 1 => there,
-        2 => there + SLOP * n.fraction(),
-        3 => there + 4.0 * SLOP * n.fraction(),
-        4 => there + slop,
-        5 => (there + slop).next_up(),
-        6 => (there + slop).next_down(),
+        2 => there + slop * n.fraction(),
+        3 => there + 4.0 * slop * n.fraction(),
+        4 => at_slop,
+        5 => at_slop.next_up(),
+        6 => at_slop.next_down(),
         _ => return any(n).separation,
     };
     near.to_bits()
@@ -71,7 +72,7 @@ pub fn move_to_speculative(work: &mut Work, cache: SatCache, n: &mut Numbers) {
             work.transform.p = there;
             return;
         };
-        let off = separation - SPECULATIVE;
+        let off = separation - work.unit.speculative_distance();
         let next = match before {
             None => by + off,
             Some((_, off_before)) if off == off_before => return,

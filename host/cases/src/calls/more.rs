@@ -2,35 +2,43 @@
 
 use super::Work;
 use crate::inputs::rounded;
-use crate::pairs::{self, placed, spin, Pair};
+use crate::pairs::{self, on_block, placed, Pair};
 use crate::shapes::kinds::{BOXES, CUBES, TETRAHEDRA, WEDGES};
 use crate::shapes::solids::{bands, block, bridged, frame, pyramid, tipped};
 use crate::shapes::Shape;
 use crate::sorts::places::{any_edges, anyhow, edge_on_edge, Spin};
 use crate::sorts::{padded, Sort};
-use crate::{convert, Numbers, SLOP};
+use crate::{convert, Numbers};
 use oracle::math_functions::*;
+use records::Unit;
 use std::cmp::Ordering;
 use std::f32::consts::FRAC_PI_2;
 
 /// Beside those that the searches go through.
 pub const MORE: [Sort; 6] = [
-    ("at most 30 from the origin, 64-gons often", pairs::any),
-    ("padding outside, anyhow", |n| {
+    ("at most 30 from the origin, 64-gons often", |unit, n| {
+        pairs::any(n).in_unit(unit)
+    }),
+    ("padding outside, anyhow", |unit, n| {
         let (a, b) = (padded(n), padded(n));
-        anyhow(a, b, n)
+        anyhow(a, b, n).in_unit(unit)
     }),
-    ("two level blocks with a bridge between them", |n| {
+    ("two level blocks with a bridge between them", |unit, n| {
         let (a, b) = (two_level(n), two_level(n));
-        placed(a, b, n)
+        placed(a, b, n).in_unit(unit)
     }),
-    ("a face of 62 to 64 corners over an edge", over_an_edge),
+    ("a face of 62 to 64 corners over an edge", |unit, n| {
+        over_an_edge(n).in_unit(unit)
+    }),
     ("normals with tiny parts", tiny_parts),
     ("an edge pair above the face by the slop", level),
 ];
 
 /// A sort for the places of candidates.
-pub const BANDS: Sort = ("bands round a corner, a face that is not convex", banded);
+pub const BANDS: Sort = (
+    "bands round a corner, a face that is not convex",
+    |unit, n| banded(n).in_unit(unit),
+);
 
 /// A block, and on its top a hull whose base is two to four bands round the top's corner, so that as many candidates carry one
 /// tag, often at one position. The block may be A or B. Some faces of the other hull look inward and keep the two apart; where
@@ -65,31 +73,6 @@ fn banded(n: &mut Numbers) -> Pair {
     on_block(block, round, Vec3 { x, y, z }, angle, n)
 }
 
-/// The block as A and the other on it, moved and turned about z, or the other way round.
-fn on_block(block: Shape, other: Shape, p: Vec3, angle: f32, n: &mut Numbers) -> Pair {
-    let axis = Vec3 {
-        x: 0.0,
-        y: 0.0,
-        z: 1.0,
-    };
-    let transform = Transform {
-        p,
-        q: spin(axis, angle),
-    };
-    if n.below(2) == 0 {
-        return Pair {
-            a: block,
-            b: other,
-            transform,
-        };
-    }
-    Pair {
-        a: other,
-        b: block,
-        transform: invert_transform(transform),
-    }
-}
-
 /// Turned with its bridge: which of the two blocks' corners lies lowest is left to rounding.
 fn two_level(n: &mut Numbers) -> Shape {
     let half = [0.0; 3].map(|_: f64| n.between(0.2, 1.0));
@@ -119,7 +102,7 @@ fn over_an_edge(n: &mut Numbers) -> Pair {
 }
 
 /// Blocks not turned, whose normals have parts so small that a product of two of them is zero.
-pub fn tiny_parts(n: &mut Numbers) -> Pair {
+pub fn tiny_parts(unit: Unit, n: &mut Numbers) -> Pair {
     let half = [0.25, 0.5, 1.0, 2.0][n.below(4)];
     let mut block = || {
         let mut shape = Shape::any(&block([half; 3]), n);
@@ -146,11 +129,11 @@ pub fn tiny_parts(n: &mut Numbers) -> Pair {
             s: 1.0,
         },
     };
-    Pair { a, b, transform }
+    Pair { a, b, transform }.in_unit(unit)
 }
 
 /// An edge pair whose separation is that of the face contact and the slop, or a float or two beside it.
-fn level(n: &mut Numbers) -> Pair {
+pub fn level(unit: Unit, n: &mut Numbers) -> Pair {
     loop {
         let mut small = || {
             let (_, solid) = [CUBES, BOXES, WEDGES, TETRAHEDRA][n.below(4)];
@@ -158,7 +141,7 @@ fn level(n: &mut Numbers) -> Pair {
         };
         let (a, b) = (small(), small());
         let edges = any_edges(&a, &b, n);
-        let pair = edge_on_edge(a, b, edges, Spin::Any, n);
+        let pair = edge_on_edge(a, b, edges, Spin::Any, n).in_unit(unit);
         if let Some(transform) = levelled(&mut Work::of_pair(&pair), n) {
             return Pair { transform, ..pair };
         }
@@ -167,7 +150,7 @@ fn level(n: &mut Numbers) -> Pair {
 
 /// Where the two are level on some way from here, or where they change places.
 fn levelled(work: &mut Work, n: &mut Numbers) -> Option<Transform> {
-    let start = work.transform;
+    let (start, scale) = (work.transform, work.unit.scale());
     let way = convert::vector(rounded(frame(n)[0]));
     let mut at = |by: f32, nudge: Vec3| {
         let p = add(mul_add(start.p, by, way), nudge);
@@ -175,10 +158,10 @@ fn levelled(work: &mut Work, n: &mut Numbers) -> Option<Transform> {
         Some((work.transform, edge_beside_face(work)?))
     };
     let (_, first) = at(0.0, VEC3_ZERO)?;
-    let (mut low, mut high) = (0.0, 0.005);
+    let (mut low, mut high) = (0.0, 0.005 * scale);
     while at(high, VEC3_ZERO)?.1 == first {
         (low, high) = (high, 1.5 * high);
-        if high > 0.2 {
+        if high > 0.2 * scale {
             return None;
         }
     }
@@ -195,7 +178,7 @@ fn levelled(work: &mut Work, n: &mut Numbers) -> Option<Transform> {
         if near.1 == Ordering::Equal {
             break;
         }
-        let [x, y, z] = [0; 3].map(|_| 3e-7 * n.fraction());
+        let [x, y, z] = [0; 3].map(|_| 3e-7 * scale * n.fraction());
         near = at(low, Vec3 { x, y, z })?;
     }
     Some(near.0)
@@ -204,7 +187,7 @@ fn levelled(work: &mut Work, n: &mut Numbers) -> Option<Transform> {
 /// The edge pair's separation beside that of the face contact and the slop, where there are both.
 fn edge_beside_face(work: &Work) -> Option<Ordering> {
     let query = work.search_to_end();
-    let least = work.face_separation(&query)? + SLOP;
+    let least = work.face_separation(&query)? + work.unit.slop();
     if query.edge.index_a < 0 {
         return None;
     }

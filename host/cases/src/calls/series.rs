@@ -7,7 +7,7 @@ use crate::pairs::{moved, Pair};
 use crate::{convert, Numbers};
 use records::{SatCache, Transform};
 
-/// How far B is moved from call to call.
+/// How far B is moved from call to call, in metres and in radians.
 const STEPS: [f32; 8] = [0.0, 0.0, 1e-6, 1e-4, 1e-3, 4e-3, 0.02, 0.1];
 
 /// Two hulls that calls are made on, and where B lies now.
@@ -45,7 +45,7 @@ impl<'a> Series<'a> {
 
     fn step(&mut self, by: f32, n: &mut Numbers) {
         let there = convert::transform(self.transform);
-        self.transform = convert::our_transform(moved(there, by, n));
+        self.transform = convert::our_transform(moved(there, by, self.pair.unit(), n));
     }
 
     /// Caches that name what is there, the last with B at the speculative distance along its axis; and any cache.
@@ -128,7 +128,7 @@ impl<'a> Series<'a> {
         for index_a in (0..a.half_edges as u8).step_by(2) {
             for index_b in (0..b.half_edges as u8).step_by(2) {
                 let cache = SatCache {
-                    separation: near(0.0, n),
+                    separation: near(0.0, self.pair.unit(), n),
                     kind: 4,
                     index_a,
                     index_b,

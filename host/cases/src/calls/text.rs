@@ -3,6 +3,7 @@
 use super::{empty, same_answers, Answer, Call};
 use crate::convert;
 use crate::pairs::Pair;
+use oracle::core::with_length_units;
 use oracle::hull::HullData;
 use oracle::math_functions::Transform;
 use oracle::open::{
@@ -10,7 +11,7 @@ use oracle::open::{
 };
 use oracle::quiet;
 use oracle::transcribed::{self, again, Again, End};
-use records::{Contact, Outcome, SatCache, MAX_MANIFOLD_POINTS};
+use records::{Contact, Outcome, SatCache, Unit, MAX_MANIFOLD_POINTS};
 
 /// The bits of a NaN that a call works out.
 const NAN: u32 = 0x7fc0_0000;
@@ -32,11 +33,12 @@ impl Call<'_> {
     }
 }
 
-/// Accepted hulls and an accepted transform in the text's records.
+/// Accepted hulls and an accepted transform in the text's records. The text works in the unit of hull A, which is B's too.
 pub struct Work {
     pub a: HullData,
     pub b: HullData,
     pub transform: Transform,
+    pub unit: Unit,
 }
 
 impl Work {
@@ -45,15 +47,28 @@ impl Work {
             a: convert::hull(&pair.a),
             b: convert::hull(&pair.b),
             transform: pair.transform,
+            unit: pair.unit(),
         }
     }
 
     pub fn of_call(call: &Call) -> Work {
+        let unit = call.a.size.known_unit().expect("the hull is good");
+        Work::of_call_in(call, unit)
+    }
+
+    /// The same in this unit, whatever that of hull A is.
+    pub fn of_call_in(call: &Call, unit: Unit) -> Work {
         Work {
             a: convert::lent(call.a),
             b: convert::lent(call.b),
             transform: convert::transform(call.transform),
+            unit,
         }
+    }
+
+    /// What the text comes to in the hulls' unit.
+    fn in_unit<T>(&self, work: impl FnOnce() -> T) -> T {
+        with_length_units(self.unit.scale(), work)
     }
 
     /// The text's answer to a cache whose numbers are in range, with a capacity of 4 or more. Its places alone are those of
@@ -100,7 +115,9 @@ impl Work {
         quiet(move || {
             let mut manifold = LocalManifold::default();
             let (a, b) = (&self.a, &self.b);
-            collide(&mut manifold, capacity, a, b, self.transform, &mut cache);
+            self.in_unit(|| {
+                collide(&mut manifold, capacity, a, b, self.transform, &mut cache);
+            });
             (manifold, cache)
         })
     }
@@ -108,7 +125,7 @@ impl Work {
     /// The candidates of the contact that left this cache, as they stood before any pick.
     pub fn candidates(&self, next: SatCache) -> Vec<open::ClipVertex> {
         let next = convert::cache(next);
-        transcribed::candidates(&self.a, &self.b, self.transform, &next)
+        self.in_unit(|| transcribed::candidates(&self.a, &self.b, self.transform, &next))
     }
 
     /// The separation of the contact on the face that wins, where it touches: what stands before a pair of edges is tried.
@@ -130,17 +147,18 @@ impl Work {
 
     /// How far the text gets with the cached axis, where the cache has one.
     pub fn again(&self, cache: SatCache) -> Option<Again> {
-        again(&self.a, &self.b, self.transform, &convert::cache(cache))
+        let cache = convert::cache(cache);
+        self.in_unit(|| again(&self.a, &self.b, self.transform, &cache))
     }
 
     /// The search of a call, which stops at the first new best strictly above the speculative distance.
     pub fn search(&self) -> AxisQuery {
-        search(&self.a, &self.b, self.transform, true)
+        self.in_unit(|| search(&self.a, &self.b, self.transform, true))
     }
 
     /// The best axis of each kind, however far apart the hulls are.
     pub fn search_to_end(&self) -> AxisQuery {
-        search(&self.a, &self.b, self.transform, false)
+        self.in_unit(|| search(&self.a, &self.b, self.transform, false))
     }
 
     /// The refusal that the text's panic stands for: "5, 6 as the work meets them", after a cached face. The text also

@@ -16,7 +16,7 @@ pub const RULES: u8 = BREAKS.len() as u8;
 
 /// The breaks of H1 to H9. Each works on any hull that keeps the rules up to its own.
 const BREAKS: [&[Break]; 9] = [
-    &[other_size, other_length],
+    &[other_size, other_length, other_unit],
     &[out_of_range],
     &[other_twin, numbers_exchanged],
     &[other_origin, other_face, nexts_exchanged],
@@ -93,6 +93,29 @@ fn other_length(shape: &mut Shape, n: &mut Numbers) -> bool {
         2 => shape.links.truncate(n.below(links)),
         _ => shape.links.extend(vec![0; 1 + n.below(300)]),
     }
+    true
+}
+
+/// Units that there are not, some of them beside one that there is or the same in their low bytes.
+pub const UNKNOWN_UNITS: [usize; 14] = [
+    0,
+    2,
+    5,
+    9,
+    11,
+    99,
+    101,
+    999,
+    1001,
+    10_000,
+    65_535,
+    (1 << 16) + 10,
+    (1 << 32) + 1,
+    usize::MAX,
+];
+
+fn other_unit(shape: &mut Shape, n: &mut Numbers) -> bool {
+    shape.size.unit = UNKNOWN_UNITS[n.below(UNKNOWN_UNITS.len())];
     true
 }
 
@@ -174,7 +197,7 @@ fn beyond_limit(shape: &mut Shape, n: &mut Numbers) -> bool {
         f32::NAN,
         f32::INFINITY,
         f32::NEG_INFINITY,
-        8192f32.next_up(),
+        shape.unit().farthest_offset().next_up(),
         -1e30,
     ];
     let place = n.below(shape.numbers.len());

@@ -1,19 +1,20 @@
 //! Why a hull was not built, and where.
 
 use crate::shells::in_words;
-use crate::Rule;
+use crate::{Rule, Unit};
 use std::fmt;
 
 /// The first thing that is wrong with what a builder was given. Faces and vertices are told by their numbers, from 0 in
-/// the order in which they were given, and distances in metres. It prints as one sentence.
+/// the order in which they were given, and lengths in the hull's unit. It prints as one sentence.
 #[derive(Debug, Clone, Copy, PartialEq)]
 pub enum BuildError {
-    /// A coordinate is not finite, or beyond 4096 m either way.
+    /// A coordinate is not finite, or beyond [`Unit::farthest`] either way.
     Coordinate {
         vertex: usize,
         /// x, y or z.
         axis: char,
         value: f32,
+        unit: Unit,
     },
     /// There are too few or too many of something.
     Count {
@@ -55,13 +56,14 @@ pub enum BuildError {
         edges: usize,
         faces: usize,
     },
-    /// On no axis do the ends of an edge differ by 1/1024 m or more.
+    /// On no axis do the ends of an edge differ by [`Unit::shortest_edge`] or more.
     ShortEdge {
         from: usize,
         to: usize,
         /// The greatest difference on an axis.
         length: f32,
         least: f32,
+        unit: Unit,
     },
     /// A face's normal cannot be found.
     NoArea { face: usize },
@@ -73,14 +75,20 @@ pub enum BuildError {
         highest: usize,
         distance: f32,
         tolerance: f32,
+        unit: Unit,
     },
     /// No vertex lies farther than the tolerance from the plane of a face.
-    NoVolume { face: usize, tolerance: f32 },
+    NoVolume {
+        face: usize,
+        tolerance: f32,
+        unit: Unit,
+    },
     /// The hull is inside out: a ring, the first such one, is clockwise as seen from outside.
     Clockwise {
         face: usize,
         /// How far the mean of all vertices lies above the face's plane.
         above: f32,
+        unit: Unit,
     },
     /// A corner lies inside the line between two others of its ring, which come before and after it.
     FaceNotConvex {
@@ -90,6 +98,7 @@ pub enum BuildError {
         to: usize,
         distance: f32,
         tolerance: f32,
+        unit: Unit,
     },
     /// A vertex lies outside a face's plane.
     NotConvex {
@@ -97,6 +106,7 @@ pub enum BuildError {
         vertex: usize,
         distance: f32,
         tolerance: f32,
+        unit: Unit,
     },
     /// A rule of the library is broken.
     Rule(Rule),
@@ -128,9 +138,12 @@ impl fmt::Display for BuildError {
                 vertex,
                 axis,
                 value,
+                unit,
             } => write!(
                 f,
-                "vertex {vertex} has {axis} = {value:?} m, and a coordinate is finite and at most 4096 m either way"
+                "vertex {vertex} has {axis} = {value:?} {m}, and a coordinate is finite and at most {} {m} either way",
+                unit.farthest(),
+                m = unit.symbol()
             ),
             BuildError::Count {
                 what,
@@ -197,10 +210,12 @@ impl fmt::Display for BuildError {
                 to,
                 length,
                 least,
+                unit,
             } => write!(
                 f,
                 "the edge from vertex {from} to vertex {to} is too short: on no axis are its ends more than \
-                 {length:?} m apart, and {least:?} m is the least; join the two vertices"
+                 {length:?} {m} apart, and {least:?} {m} is the least; join the two vertices",
+                m = unit.symbol()
             ),
             BuildError::NoArea { face } => write!(
                 f,
@@ -212,20 +227,28 @@ impl fmt::Display for BuildError {
                 highest,
                 distance,
                 tolerance,
+                unit,
             } => write!(
                 f,
-                "face {face} is not flat: its vertex {vertex} lies {distance:?} m below its vertex {highest}, and \
-                 {tolerance:?} m is allowed; cut it into triangles, or allow more by flat_within"
+                "face {face} is not flat: its vertex {vertex} lies {distance:?} {m} below its vertex {highest}, and \
+                 {tolerance:?} {m} is allowed; cut it into triangles, or allow more by flat_within",
+                m = unit.symbol()
             ),
-            BuildError::NoVolume { face, tolerance } => write!(
+            BuildError::NoVolume {
+                face,
+                tolerance,
+                unit,
+            } => write!(
                 f,
-                "the hull has no volume: every vertex lies within {tolerance:?} m of the plane of face {face}; move \
-                 one out of it, or allow less by flat_within"
+                "the hull has no volume: every vertex lies within {tolerance:?} {} of the plane of face {face}; move \
+                 one out of it, or allow less by flat_within",
+                unit.symbol()
             ),
-            BuildError::Clockwise { face, above } => write!(
+            BuildError::Clockwise { face, above, unit } => write!(
                 f,
                 "the ring of face {face} is clockwise as seen from outside, for the mean of all vertices lies \
-                 {above:?} m above its plane: turn it round, and with it the others, for the hull is inside out"
+                 {above:?} {} above its plane: turn it round, and with it the others, for the hull is inside out",
+                unit.symbol()
             ),
             BuildError::FaceNotConvex {
                 face,
@@ -234,20 +257,24 @@ impl fmt::Display for BuildError {
                 to,
                 distance,
                 tolerance,
+                unit,
             } => write!(
                 f,
-                "face {face} is not convex: its vertex {vertex} lies {distance:?} m inside the line from its vertex \
-                 {from} to its vertex {to}, and {tolerance:?} m is allowed; cut it into convex faces"
+                "face {face} is not convex: its vertex {vertex} lies {distance:?} {m} inside the line from its vertex \
+                 {from} to its vertex {to}, and {tolerance:?} {m} is allowed; cut it into convex faces",
+                m = unit.symbol()
             ),
             BuildError::NotConvex {
                 face,
                 vertex,
                 distance,
                 tolerance,
+                unit,
             } => write!(
                 f,
-                "the hull is not convex: vertex {vertex} lies {distance:?} m outside the plane of face {face}, and \
-                 {tolerance:?} m is allowed; cut it into convex hulls, or allow more by flat_within"
+                "the hull is not convex: vertex {vertex} lies {distance:?} {m} outside the plane of face {face}, and \
+                 {tolerance:?} {m} is allowed; cut it into convex hulls, or allow more by flat_within",
+                m = unit.symbol()
             ),
             BuildError::Rule(rule) => write!(f, "{rule}"),
         }

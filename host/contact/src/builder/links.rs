@@ -2,7 +2,7 @@
 
 use super::{BuildError, Counted};
 use crate::shells::lowest;
-use crate::HullSize;
+use crate::{HullSize, Unit};
 use std::collections::HashMap;
 
 /// The sizes of a hull lie within these (H1), ends included.
@@ -13,9 +13,6 @@ const MOST_HALF_EDGES: usize = 256;
 const LEAST_FACES: usize = 4;
 const MOST_FACES: usize = 128;
 
-/// On some axis the ends of an edge differ by so much (H8), in metres.
-const SHORTEST: f32 = 1.0 / 1024.0;
-
 /// Each item with the one after it, the last with the first.
 pub fn sides<T: Copy>(ring: &[T]) -> impl Iterator<Item = (T, T)> + '_ {
     let after = ring.iter().cycle().skip(1);
@@ -23,7 +20,7 @@ pub fn sides<T: Copy>(ring: &[T]) -> impl Iterator<Item = (T, T)> + '_ {
 }
 
 /// The sizes, where they are within their limits and each ring names three or more different vertices that are there.
-pub fn size(vertices: usize, rings: &[Vec<usize>]) -> Result<HullSize, BuildError> {
+pub fn size(unit: Unit, vertices: usize, rings: &[Vec<usize>]) -> Result<HullSize, BuildError> {
     let faces = rings.len();
     within(Counted::Vertices, vertices, LEAST_VERTICES, MOST_VERTICES)?;
     within(Counted::Faces, faces, LEAST_FACES, MOST_FACES)?;
@@ -39,6 +36,7 @@ pub fn size(vertices: usize, rings: &[Vec<usize>]) -> Result<HullSize, BuildErro
         MOST_HALF_EDGES,
     )?;
     Ok(HullSize {
+        unit: unit.per_metre(),
         vertices,
         half_edges,
         faces,
@@ -160,20 +158,23 @@ fn numbered(rings: &[Vec<usize>]) -> HashMap<(usize, usize), u8> {
     numbers
 }
 
-/// As H8 asks: on some axis the rounded difference between the ends of each edge is 1/1024 m or more.
+/// As H8 asks: on some axis the rounded difference between the ends of each edge is 1/1024 of the unit's number or more.
 pub fn edges_are_long_enough(
+    unit: Unit,
     vertices: &[[f32; 3]],
     rings: &[Vec<usize>],
 ) -> Result<(), BuildError> {
+    let least = unit.shortest_edge();
     for (from, to) in rings.iter().flat_map(|ring| sides(ring)) {
         let (a, b) = (vertices[from], vertices[to]);
         let length = (a.iter().zip(b)).fold(0.0, |most: f32, (a, b)| most.max((a - b).abs()));
-        if length < SHORTEST {
+        if length < least {
             return Err(BuildError::ShortEdge {
                 from,
                 to,
                 length,
-                least: SHORTEST,
+                least,
+                unit,
             });
         }
     }

@@ -2,6 +2,7 @@
 //! out: the vertices as they were given, the normals as they are rounded.
 
 use super::{higher, BuildError};
+use crate::Unit;
 
 type Vector = [f64; 3];
 
@@ -47,7 +48,7 @@ impl Plane {
         [x, y, z, self.offset].map(|x| x as f32)
     }
 
-    /// How far a point lies above the plane, in metres.
+    /// How far a point lies above the plane.
     fn above(&self, point: Vector) -> f64 {
         dot(self.normal, point) - self.offset
     }
@@ -55,6 +56,8 @@ impl Plane {
 
 /// A solid with a plane for each of its faces.
 pub struct Bounded<'a> {
+    /// Of all lengths.
+    unit: Unit,
     points: Vec<Vector>,
     rings: &'a [Vec<usize>],
     planes: Vec<Plane>,
@@ -62,7 +65,11 @@ pub struct Bounded<'a> {
 
 impl<'a> Bounded<'a> {
     /// The rings name vertices that are there, and are not empty.
-    pub fn new(vertices: &[[f32; 3]], rings: &'a [Vec<usize>]) -> Result<Self, BuildError> {
+    pub fn new(
+        unit: Unit,
+        vertices: &[[f32; 3]],
+        rings: &'a [Vec<usize>],
+    ) -> Result<Self, BuildError> {
         let points: Vec<Vector> = vertices
             .iter()
             .map(|vertex| vertex.map(f64::from))
@@ -77,6 +84,7 @@ impl<'a> Bounded<'a> {
             .map(plane)
             .collect::<Result<_, _>>()?;
         Ok(Bounded {
+            unit,
             points,
             rings,
             planes,
@@ -115,6 +123,7 @@ impl<'a> Bounded<'a> {
                     highest,
                     distance,
                     tolerance,
+                    unit: self.unit,
                 });
             }
         }
@@ -126,7 +135,11 @@ impl<'a> Bounded<'a> {
         for (face, _, plane) in self.faces() {
             let near = |&point: &Vector| plane.above(point).abs() as f32 <= tolerance;
             if self.points.iter().all(near) {
-                return Err(BuildError::NoVolume { face, tolerance });
+                return Err(BuildError::NoVolume {
+                    face,
+                    tolerance,
+                    unit: self.unit,
+                });
             }
         }
         Ok(())
@@ -152,6 +165,7 @@ impl<'a> Bounded<'a> {
             Some((face, above)) => Err(BuildError::Clockwise {
                 face,
                 above: above as f32,
+                unit: self.unit,
             }),
         }
     }
@@ -180,6 +194,7 @@ impl<'a> Bounded<'a> {
                     to,
                     distance,
                     tolerance,
+                    unit: self.unit,
                 });
             }
         }
@@ -215,6 +230,7 @@ impl<'a> Bounded<'a> {
                     vertex,
                     distance,
                     tolerance,
+                    unit: self.unit,
                 });
             }
         }

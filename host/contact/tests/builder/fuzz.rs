@@ -206,7 +206,10 @@ fn anything() {
             1 => 0.1,
             _ => FLAT_TOLERANCE,
         };
-        let builder = builder(&solid).flat_within(tolerance);
+        let unit = n.unit();
+        let solid = solid.stretched([unit.scale().into(); 3]);
+        let tolerance = tolerance * unit.scale();
+        let builder = builder(&solid).unit(unit).flat_within(tolerance);
         let name = match builder.build() {
             Ok(hull) => {
                 assert_eq!(broken_rule(&hull), 0, "{solid:?}");

@@ -24,6 +24,7 @@ fn not_flat() {
         highest: highest @ (1 | 7),
         distance,
         tolerance: FLAT_TOLERANCE,
+        unit: Unit::Metres,
     } = found
     else {
         panic!("{found:?}");
@@ -55,6 +56,7 @@ fn no_volume() {
     let wanted = BuildError::NoVolume {
         face: 0,
         tolerance: FLAT_TOLERANCE,
+        unit: Unit::Metres,
     };
     let words = "every vertex lies within 0.0005 m of the plane of face 0";
     says(builder(&sheet), wanted, words);
@@ -68,6 +70,7 @@ fn no_volume() {
     let wanted = BuildError::NoVolume {
         face: 4,
         tolerance: 0.01,
+        unit: Unit::Metres,
     };
     says(plate.clone().flat_within(0.01), wanted, "plane of face 4");
     builds(plate.flat_within(0.0099));
@@ -75,7 +78,11 @@ fn no_volume() {
 
 #[test]
 fn inside_out() {
-    let wanted = |above| BuildError::Clockwise { face: 0, above };
+    let wanted = |above| BuildError::Clockwise {
+        face: 0,
+        above,
+        unit: Unit::Metres,
+    };
     let words = "the ring of face 0 is clockwise as seen from outside, for the mean of all vertices lies 1.0 m above";
     refused(turn_all, wanted(1.0), words);
     // A tolerance does not let it pass, and a thin one is told as such.
@@ -107,6 +114,7 @@ fn face_not_convex() {
         to: 7,
         distance: 0.25,
         tolerance: FLAT_TOLERANCE,
+        unit: Unit::Metres,
     };
     let words = "face 5 is not convex: its vertex 8 lies 0.25 m inside the line from its vertex 5 to its vertex 7, and \
                  0.0005 m is allowed";
@@ -176,6 +184,7 @@ fn not_convex() {
         vertex: 6,
         distance,
         tolerance: FLAT_TOLERANCE,
+        unit: Unit::Metres,
     } = found
     else {
         panic!("{found:?}");

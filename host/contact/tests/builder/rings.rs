@@ -10,6 +10,7 @@ fn coordinates() {
             vertex: 7,
             axis: 'y',
             value: -4096.5,
+            unit: Unit::Metres,
         },
         "vertex 7 has y = -4096.5 m",
     );
@@ -19,6 +20,7 @@ fn coordinates() {
             vertex: 2,
             axis: 'x',
             value: f32::INFINITY,
+            unit: Unit::Metres,
         },
         "vertex 2 has x = inf m",
     );
@@ -27,7 +29,7 @@ fn coordinates() {
     })));
     assert!(matches!(
         found,
-        BuildError::Coordinate { vertex: 0, axis: 'z', value } if value.is_nan()
+        BuildError::Coordinate { vertex: 0, axis: 'z', value, .. } if value.is_nan()
     ));
     assert!(found.to_string().contains("vertex 0 has z = NaN m"));
     builds(builder(&block([4096.0; 3])));
@@ -230,6 +232,7 @@ fn short_edges() {
         to: 4,
         length: 0.0008,
         least: 1.0 / 1024.0,
+        unit: Unit::Metres,
     };
     let words = "from vertex 0 to vertex 4 is too short: on no axis are its ends more than 0.0008 m apart, and \
                  0.0009765625 m";
@@ -242,6 +245,54 @@ fn short_edges() {
         to: 0,
         length: 0.0009,
         least: 1.0 / 1024.0,
+        unit: Unit::Metres,
     };
     says(builder(&aslant), wanted, "more than 0.0009 m apart");
+}
+
+/// The cube of half-size 1 m in each unit, and beside it what its limits refuse.
+#[test]
+fn units() {
+    for unit in Unit::ALL {
+        let (by, m) = (f64::from(unit.scale()), unit.symbol());
+        let scaled = |half: [f64; 3]| builder(&block(half.map(|x| x * by))).unit(unit);
+        let hull = scaled([1.0; 3]).build().expect("a cube");
+        assert_eq!((hull.unit(), hull.size().unit), (unit, unit.per_metre()));
+        assert_eq!((hull.lend().unit(), broken_rule(&hull)), (Ok(unit), 0));
+        builds(scaled([4096.0; 3]));
+        let far = unit.farthest();
+        let wanted = BuildError::Coordinate {
+            vertex: 0,
+            axis: 'x',
+            value: -far.next_up(),
+            unit,
+        };
+        let words = format!("a coordinate is finite and at most {far} {m} either way");
+        let beyond = block([far.next_up().into(), by, by]);
+        says(builder(&beyond).unit(unit), wanted, &words);
+        builds(scaled([1.0, 1.0, 0.5 / 1024.0]));
+        let least = unit.shortest_edge();
+        let found = error(scaled([1.0, 1.0, 0.4 / 1024.0]));
+        assert!(
+            matches!(found, BuildError::ShortEdge { least: told, .. } if told == least),
+            "{found}"
+        );
+        assert!(found
+            .to_string()
+            .contains(&format!("{least:?} {m} is the least")));
+        // Half a millimetre is allowed, whatever the unit is; and what is given is given in the unit.
+        let sheet = || scaled([1.0, 1.0, 0.002]);
+        builds(sheet());
+        let found = error(sheet().flat_within(0.005 * unit.scale()));
+        assert!(
+            matches!(found, BuildError::NoVolume { face: 4, .. }),
+            "{found}"
+        );
+        let board = HullBuilder::board(4.0, 0.2, 0.05);
+        assert_eq!(
+            board.clone().unit(unit).build().is_ok(),
+            unit.scale() <= 10.0
+        );
+        assert_eq!(broken_rule(&board.build().expect("in metres")), 0);
+    }
 }

@@ -2,7 +2,7 @@
 //!
 //!     frames [COUNT [SEED]] -- PROGRAM [ARGUMENTS]
 //!
-//! Prints how often each sort of frame, fault, refusal, rule, cache type, place and mark was met, then how many frames were
+//! Prints how often each sort of frame, fault, refusal, rule, unit, cache type, place and mark was met, then how many frames were
 //! compared and how many answers differ. The run fails where an answer differs or something that must be met was not, as with a
 //! COUNT below 50,000. Without the Rust text, calls that do any work are left out, and said so.
 

@@ -27,7 +27,7 @@ fn testing(line: &[u8], passes: Test) -> Option<Vec<u8>> {
 }
 
 /// What the line of a call asks, by the answer that is right.
-fn call(line: &[u8], right: &[u8]) -> Option<Given> {
+pub fn call(line: &[u8], right: &[u8]) -> Option<Given> {
     if right[0] != CALL + 0x80 {
         return None;
     }

@@ -7,11 +7,12 @@ use cases::calls::{caches, Given};
 use cases::shapes::breaks::{break_rule, RULES};
 use cases::shapes::Shape;
 use cases::Numbers;
+use records::Unit;
 
 /// A hull of which `change` broke something, as A or as B.
 fn with_hull(turn: usize, n: &mut Numbers, change: impl FnOnce(&mut Shape, &mut Numbers)) -> Frame {
     let mut given = any_given(n);
-    let mut shape = hull(false, n);
+    let mut shape = hull(false, Unit::Metres, n);
     change(&mut shape, n);
     given.cache = caches::in_range(given.a.size, given.b.size, n);
     *given.side(turn) = shape;
@@ -40,7 +41,7 @@ pub fn two_rules(turn: usize, n: &mut Numbers) -> Vec<Frame> {
 pub fn refusals(turn: usize, n: &mut Numbers) -> Vec<Frame> {
     let set = 1 + turn % 15;
     let broken = [0, 1, 2, 3].map(|bit| set >> bit & 1 == 1);
-    vec![frame(&Given::any(broken, n))]
+    vec![frame(&Given::any(broken, [Unit::Metres; 2], n))]
 }
 
 /// One to three floats of a good call, each any float or a NaN with any bits; and whether the call is accepted after it

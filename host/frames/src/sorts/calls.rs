@@ -10,6 +10,8 @@ use cases::shapes::solids::{bipyramid, block, frustum, pyramid, Solid};
 use cases::shapes::{Padding, Shape};
 use cases::sorts::any_kind;
 use cases::{convert, Numbers};
+#[cfg(rust_text)]
+use records::Unit;
 use records::{HullSize, SatCache};
 
 /// What the pair's calls are given.
@@ -83,35 +85,23 @@ pub fn on_pair(pair: Pair, n: &mut Numbers) -> Vec<Frame> {
     vec![frame(&given(pair, caches::any(n)))]
 }
 
-/// A pair of a settled stack through frames of small movements, each with the cache of the one before.
+/// A pair of a settled stack in this unit through frames of small movements, each with the cache of the one before.
 #[cfg(rust_text)]
-pub fn settled(_: usize, n: &mut Numbers) -> Vec<Frame> {
+pub fn settled(unit: Unit, n: &mut Numbers) -> Vec<Frame> {
     use cases::pairs::moved;
-    use cases::settled::Stack;
+    use cases::sorts::settled;
 
     const FRAMES: usize = 24;
     /// In metres and in radians, at most.
     const STEP: f32 = 3e-4;
 
-    let mut stack = Stack::new(2, 1, n);
-    let placing = stack.pairs[0];
-    let (a, b) = (
-        stack.logs[placing.a].clone(),
-        stack.logs.swap_remove(placing.b),
-    );
-    let mut given = Given {
-        capacity: 4,
-        a,
-        b,
-        transform: placing.transform,
-        cache: SatCache::EMPTY,
-    };
+    let mut given = given(settled(n).in_unit(unit), SatCache::EMPTY);
     let mut frames = Vec::new();
     for _ in 0..FRAMES {
         frames.push(frame(&given));
         given.cache = given.call().wanted().cache;
         let there = convert::transform(given.transform);
-        given.transform = convert::our_transform(moved(there, STEP, n));
+        given.transform = convert::our_transform(moved(there, STEP, unit, n));
     }
     frames
 }
@@ -143,12 +133,12 @@ pub fn capacities(turn: usize, n: &mut Numbers) -> Vec<Frame> {
 
 /// Each type in turn with any numbers, and each number in turn with the types that name a face or a pair of edges.
 pub fn every_type_and_index(turn: usize, n: &mut Numbers) -> Vec<Frame> {
-    const A_UNIT: usize = 8;
+    const A_TURN: usize = 8;
     let mut given = any_given(n);
     let (a, b) = (given.a.size, given.b.size);
     let cache = |place: usize, n: &mut Numbers| one_of_all(place, a, b, n);
     let mut frames = Vec::new();
-    for place in turn * A_UNIT..(turn + 1) * A_UNIT {
+    for place in turn * A_TURN..(turn + 1) * A_TURN {
         given.cache = cache(place, n);
         frames.push(frame(&given));
     }

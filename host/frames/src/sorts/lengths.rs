@@ -1,7 +1,7 @@
 //! Frames whose length is not the right one, and sizes of hulls about each limit.
 
 use super::calls::{any_frame, any_given};
-use crate::codec::{call_frame, FLIP, HULL_A, ROOT};
+use crate::codec::{call_frame, FLIP, HULL_A, ROOT, UNIT_AND_SIZES};
 use crate::Frame;
 use cases::shapes::solids::pyramid;
 use cases::shapes::Shape;
@@ -21,7 +21,7 @@ pub fn small(turn: usize, n: &mut Numbers) -> Vec<Frame> {
 /// By a few bytes, to each length of the head in turn, or anywhere; or by a whole frame after it.
 pub fn calls(turn: usize, n: &mut Numbers) -> Vec<Frame> {
     let right = any_frame(n);
-    let (head, anywhere) = (turn % (HULL_A + 8), n.below(right.len()));
+    let (head, anywhere) = (turn % (HULL_A + UNIT_AND_SIZES), n.below(right.len()));
     let by = 1 + turn % 4;
     let [mut longer, mut twice] = [0; 2].map(|_| right.clone());
     longer.resize(right.len() + by, n.word() as u8);
@@ -37,15 +37,20 @@ pub fn calls(turn: usize, n: &mut Numbers) -> Vec<Frame> {
     frames.map(Frame::Bytes).to_vec()
 }
 
+/// The bytes of a unit, which stand before the sizes.
+const UNIT: usize = 2;
+
 /// One byte of a size other than it was: most often the length no longer fits.
 pub fn sizes_changed(turn: usize, n: &mut Numbers) -> Vec<Frame> {
     let given = any_given(n);
     let mut frame = call_frame(&given.call());
     let hull_a = given.a.size;
-    let sizes_b =
-        HULL_A + 6 + 4 * hull_a.numbers().expect("small") + hull_a.links().expect("small");
-    let from = [HULL_A, sizes_b][turn % 2];
-    let byte = &mut frame[from + turn / 2 % 6];
+    let hull_b = HULL_A
+        + UNIT_AND_SIZES
+        + 4 * hull_a.numbers().expect("small")
+        + hull_a.links().expect("small");
+    let from = [HULL_A, hull_b][turn % 2] + UNIT;
+    let byte = &mut frame[from + turn / 2 % (UNIT_AND_SIZES - UNIT)];
     *byte = match n.below(3) {
         0 => byte.wrapping_add(1),
         1 => byte.wrapping_sub(1),
@@ -63,7 +68,7 @@ const COUNTS: [&[usize]; 3] = [
 const LARGEST: [usize; 3] = [0, 1000, 65535];
 
 /// Beside a tetrahedron, a hull of these sizes makes the longest frame that a program reads: 10,000 bytes.
-const LONGEST: [usize; 3] = [128, 1477, 127];
+const LONGEST: [usize; 3] = [128, 1476, 127];
 
 /// A hull of such sizes, its lists of fitting length filled anyhow, beside a good one on either side.
 pub fn about_limits(turn: usize, n: &mut Numbers) -> Vec<Frame> {
@@ -89,6 +94,7 @@ pub fn about_limits(turn: usize, n: &mut Numbers) -> Vec<Frame> {
         *given.side(side + 1) = Shape::any(&pyramid(3, 1.0, 1.0), n);
     }
     let size = HullSize {
+        unit: 1,
         vertices,
         half_edges,
         faces,

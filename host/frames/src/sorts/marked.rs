@@ -19,7 +19,7 @@ pub const WHOLE_CASE: [(&str, &str); 4] = [
 /// The face of a block that looks along z.
 const TOP: u8 = 5;
 
-/// All of them, one a unit.
+/// All of them, one a turn.
 pub fn runs(turn: usize, _: &mut Numbers) -> Vec<Frame> {
     let all = all();
     vec![all[turn % all.len()].clone()]

@@ -11,7 +11,7 @@ use cases::shapes::kinds::{Kind, BOXES, CUBES, SHELLS, TETRAHEDRA, WEDGES};
 use cases::shapes::solids::{block, bridged, torus, Solid};
 use cases::shapes::Shape;
 use cases::Numbers;
-use records::SatCache;
+use records::{SatCache, Unit};
 
 /// How many turns the three sorts here take: the first for each kind as A and as B, the second for each hull or both beside
 /// each set of other faults and once more, the third for each that is near as A and as B.
@@ -44,7 +44,7 @@ const DOZEN: usize = 3 * 4;
 /// dozen the other hull may break any rule but H1, with which a frame may have another length, and the capacity may be below
 /// 4, where nothing is looked at.
 pub fn beside(turn: usize, n: &mut Numbers) -> Vec<Frame> {
-    let mut other = hull(false, n);
+    let mut other = hull(false, Unit::Metres, n);
     let more = turn / DOZEN % 2 == 1;
     if more && n.below(2) == 0 {
         break_rule(2 + n.below(usize::from(RULES) - 1) as u8, &mut other, n);
@@ -65,7 +65,7 @@ pub fn beside(turn: usize, n: &mut Numbers) -> Vec<Frame> {
         } else {
             enough(n)
         },
-        transform: transform(turn % 2 == 1, n),
+        transform: transform(turn % 2 == 1, Unit::Metres, n),
         a,
         b,
         cache,

@@ -5,6 +5,7 @@ use validator::first_broken_rule;
 
 #[derive(Clone)]
 pub struct Hull {
+    pub unit: usize,
     pub numbers: Vec<f32>,
     pub vertex_edges: Vec<u8>,
     pub half_edges: Vec<[u8; 4]>,
@@ -21,7 +22,21 @@ impl Hull {
     }
 
     pub fn answer_for(&self, vertices: usize, half_edges: usize, faces: usize) -> u8 {
-        first_broken_rule(&self.numbers, &self.links(), vertices, half_edges, faces)
+        let (numbers, links) = (&self.numbers, self.links());
+        first_broken_rule(numbers, &links, self.unit, vertices, half_edges, faces)
+    }
+
+    /// The same hull in this unit, from metres: every number but the normals is larger by it.
+    pub fn in_unit(&self, unit: usize) -> Hull {
+        let mut hull = self.clone();
+        let planes = 6 + 3 * self.vertex_edges.len().next_multiple_of(4);
+        for (place, x) in hull.numbers.iter_mut().enumerate() {
+            if place < planes || (place - planes) % 4 == 3 {
+                *x *= unit as f32;
+            }
+        }
+        hull.unit = unit;
+        hull
     }
 
     pub fn links(&self) -> Vec<u8> {
@@ -130,6 +145,7 @@ pub fn of_loops(corners: &[[f32; 3]], loops: &[Vec<u8>]) -> Hull {
         }
     }
     let mut hull = Hull {
+        unit: 1,
         numbers: Vec::new(),
         vertex_edges: vec![0; corners.len()],
         half_edges: vec![[0; 4]; numbered.len()],
@@ -166,6 +182,7 @@ fn plane([a, b, c]: [[f32; 3]; 3]) -> [f32; 4] {
 pub fn tetrahedron() -> Hull {
     let k = 1.0 / 3.0f32.sqrt();
     Hull {
+        unit: 1,
         numbers: vec![
             0.0, 0.0, 0.0, 1.0, 1.0, 1.0, // box
             0.0, 1.0, 0.0, 0.0, // x
@@ -198,6 +215,7 @@ pub fn tetrahedron() -> Hull {
 /// Half-size 1; a corner's signs are the bits of its number; faces -x, +x, -y, +y, -z, +z.
 pub fn cube() -> Hull {
     Hull {
+        unit: 1,
         numbers: vec![
             -1.0, -1.0, -1.0, 1.0, 1.0, 1.0, // box
             -1.0, 1.0, -1.0, 1.0, -1.0, 1.0, -1.0, 1.0, // x

@@ -5,6 +5,7 @@ use validator::{first_broken_rule, transform_accepted};
 
 mod hull;
 mod shells;
+mod units;
 
 const NEXT: usize = 0;
 const TWIN: usize = 1;
@@ -58,9 +59,9 @@ fn sizes() {
     let links = cube.links();
     let longer = [links.as_slice(), &[0]].concat();
     for links in [&links[1..], &longer, &[]] {
-        assert_eq!(first_broken_rule(&cube.numbers, links, 8, 24, 6), 1);
+        assert_eq!(first_broken_rule(&cube.numbers, links, 1, 8, 24, 6), 1);
     }
-    assert_eq!(first_broken_rule(&[], &links, 8, 24, 6), 1);
+    assert_eq!(first_broken_rule(&[], &links, 1, 8, 24, 6), 1);
 }
 
 #[test]
@@ -223,18 +224,18 @@ fn first_of_two() {
 #[test]
 fn transforms() {
     let unit = [0.0, 0.0, 0.0, 1.0];
-    assert!(transform_accepted([4096.0, -4096.0, 0.0], unit));
-    assert!(!transform_accepted([0.0, above(4096.0), 0.0], unit));
-    assert!(!transform_accepted([f32::NAN, 0.0, 0.0], unit));
-    assert!(!transform_accepted([0.0, 0.0, f32::NEG_INFINITY], unit));
-    assert!(transform_accepted([0.0; 3], [0.5, -0.5, 0.5, -0.5]));
-    assert!(!transform_accepted([0.0; 3], [0.0; 4]));
-    assert!(!transform_accepted([0.0; 3], [0.5, 0.5, 0.5, 0.52]));
+    assert!(transform_accepted(1, [4096.0, -4096.0, 0.0], unit));
+    assert!(!transform_accepted(1, [0.0, above(4096.0), 0.0], unit));
+    assert!(!transform_accepted(1, [f32::NAN, 0.0, 0.0], unit));
+    assert!(!transform_accepted(1, [0.0, 0.0, f32::NEG_INFINITY], unit));
+    assert!(transform_accepted(1, [0.0; 3], [0.5, -0.5, 0.5, -0.5]));
+    assert!(!transform_accepted(1, [0.0; 3], [0.0; 4]));
+    assert!(!transform_accepted(1, [0.0; 3], [0.5, 0.5, 0.5, 0.52]));
     for x in [f32::NAN, f32::INFINITY, 1.005] {
         for place in 0..4 {
             let mut quaternion = [0.0; 4];
             quaternion[place] = x;
-            assert!(!transform_accepted([0.0; 3], quaternion));
+            assert!(!transform_accepted(1, [0.0; 3], quaternion));
         }
     }
 }

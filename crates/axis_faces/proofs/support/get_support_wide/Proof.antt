@@ -2,9 +2,8 @@
 use mathlib.Core.Path.{_≡_, _∙_, sym, subst}
 use Prim.Native.Nat.{ℕ, _+_, _-_, _*_, _/_, _<_, _≤_}
 use native.Mathlib.Omega.{arith}
-use Rattle.manifold.specs.Limits.{huge}
 use Rattle.hull_links.specs.Links.{padded}
-use Rattle.axis_faces.specs.Support.{groupOf, splatOf, leastLanes}
+use Rattle.axis_faces.specs.Support.{groupOf, leastLanes}
 use Rattle.axis_faces.proofs.Lanes.{lanes-finite, group-finite, support-in, no-group, one-group, all-groups}
 use borrow.Author.Needs.{needs}
 use Rattle.axis_faces.proofs.support.get_support_wide.Statement.{statement}
@@ -19,43 +18,44 @@ abbrev μ-loop : tie.MeasureT-loop
 add-groups : tie.Need-add-groups Inv-loop μ-loop
 add-groups c = omega (arith, c .before .before .pre .fit .v-high)
 
+huge-requires : tie.Need-huge-requires Inv-loop μ-loop
+huge-requires c κs = search needs
+
 splat-requires : tie.Need-splat-requires Inv-loop μ-loop
 splat-requires c κs = search needs
 
 loop-holds : tie.Need-loop-holds Inv-loop μ-loop
-loop-holds c =
-    let start : c .splat .result ≡ splatOf huge = c .splat .ensures in
-    (search needs, start ∙ no-group _ _ _ _)
+loop-holds c = (search needs, c .splat .ensures ∙ no-group _ _ _ _ _ (c .before .huge .ensures))
 
 mul-group : tie.Need-mul-group Inv-loop μ-loop
-mul-group c = omega (arith, c .before .before .before .before .before .pre .fit .v-high, c .loop-test .taken)
+mul-group c = omega (arith, c .before .before .before .before .before .before .pre .fit .v-high, c .loop-test .taken)
 
 group-requires : tie.Need-group-requires Inv-loop μ-loop
-group-requires c κs = (c .before .before .before .before .before .pre, omega (arith, c .loop-test .taken))
+group-requires c κs = (c .before .before .before .before .before .before .pre, omega (arith, c .loop-test .taken))
 
 min-w-requires : tie.Need-min-w-requires Inv-loop μ-loop
 min-w-requires c κs =
     let l = c .before .before in
-    let p = l .before .before .before .before .pre in (
+    let p = l .before .before .before .before .before .pre in (
       lanes-finite p (l .loop .g) _ (omega (arith, c .before .loop-test .taken)) (l .loop .inv .1),
       group-finite p (4 * l .loop .g) _ (omega (arith, c .before .loop-test .taken)) (c .group .ensures),
     )
 
 add-g : tie.Need-add-g Inv-loop μ-loop
-add-g c = omega (arith, c .before .before .before .before .before .before .before .pre .fit .v-high, c .before .before .loop-test .taken)
+add-g c = omega (arith, c .before .before .before .before .before .before .before .before .pre .fit .v-high, c .before .before .loop-test .taken)
 
 loop-less : tie.Need-loop-less Inv-loop μ-loop
 loop-less c = omega (arith, c .before .before .loop-test .taken)
 
 loop-again : tie.Need-loop-again Inv-loop μ-loop
 loop-again c =
-    let a = c .before .before .before .before .before .before .before .args in
+    let a = c .before .before .before .before .before .before .before .before .args in
     let l = c .before .before .before .loop in
     let four : c .before .group .result ≡ groupOf (a .bias) (a .d) (a .size) (a .numbers .now) (4 * l .g) = c .before .group .ensures in
     (omega (arith, c .before .before .loop-test .taken), one-group _ _ _ _ (l .g) _ _ _ (l .inv .1) four (c .min-w .ensures))
 
 min-index-w-requires : tie.Need-min-index-w-requires Inv-loop μ-loop
-min-index-w-requires c κs = lanes-finite (c .before .before .before .before .before .pre) _ _ (omega (arith, c .before .loop .inv .0))
+min-index-w-requires c κs = lanes-finite (c .before .before .before .before .before .before .pre) _ _ (omega (arith, c .before .loop .inv .0))
     (c .before .loop .inv .1)
 
 cast-result : tie.Need-cast-result Inv-loop μ-loop
@@ -63,7 +63,7 @@ cast-result c = search needs
 
 returns : tie.Need-returns Inv-loop μ-loop
 returns c =
-    let s = c .before .before .before .before .before .before in
+    let s = c .before .before .before .before .before .before .before in
     let l = c .before .before .loop in
     let all : l .g ≡ (s .args .size .vertices + 3) / 4 = omega (arith, l .inv .0, c .before .loop-test .left) in
     let e = all-groups (s .args .bias) (s .args .d) (s .args .size) (s .args .numbers .now) (l .g) (c .min-index-w .result) _ all (l .inv .1)
@@ -77,6 +77,7 @@ get-support-wide-spec =
     Inv-loop
     μ-loop
     add-groups
+    huge-requires
     splat-requires
     loop-holds
     mul-group

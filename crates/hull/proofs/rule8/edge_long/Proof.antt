@@ -41,9 +41,9 @@ returns : tie.Need-returns
 unfolding edgeLong
 returns c =
     let b = c .before .before .before in
-    c .ends-apart .ensures
-    ∙ ap₂ endsApart (c .before .before .vertex-at .ensures ∙ ap (vertexAt _ _) (b .before .origin-of .ensures))
-    (c .before .vertex-at2 .ensures ∙ ap (vertexAt _ _) (b .origin-of2 .ensures))
+    rw (← b .before .before .before .before .pre .4) (c .ends-apart .ensures
+    ∙ ap₂ (endsApart _) (c .before .before .vertex-at .ensures ∙ ap (vertexAt _ _) (b .before .origin-of .ensures))
+    (c .before .vertex-at2 .ensures ∙ ap (vertexAt _ _) (b .origin-of2 .ensures)))
 
 pub edge-long-spec : {M : Type 1} → statement M
 edge-long-spec =

@@ -7,12 +7,17 @@ use Rattle.hull.proofs.Laws.{part-small, padding-passes, refuses, decid
 use Rattle.hull.proofs.rule8.numbers_right.Statement.{statement}
 use Rattle.hull.proofs.rule8.numbers_right.Tie as tie
 
+coordinate-limit-requires : tie.Need-coordinate-limit-requires
+coordinate-limit-requires c κs = search needs
+
 numbers-small-requires : tie.Need-numbers-small-requires
 numbers-small-requires c κs = search needs
 
 returns : tie.Need-returns
-returns c = refuses _ _ _ _ (c .if1 .taken) (c .before .numbers-small .ensures) (λ p. part-small (c .before .before .before .before .args .size)
-    _ _ _ (p .smalls) (omega arith))
+returns c =
+    let limited = c .before .before in
+    refuses _ _ _ _ (c .if1 .taken) (rw (limited .coordinate-limit .ensures) at (c .before .numbers-small .ensures))
+    (λ p. part-small (limited .before .before .before .args .size) _ _ _ (p .smalls) (omega arith))
 
 padding-small-requires : tie.Need-padding-small-requires
 padding-small-requires c κs = search needs
@@ -41,8 +46,8 @@ returns-5 c =
     let b = d .before .before in
     let w = b .before .before in
     let a = w .before .before in
-    decides _ _ _ (a .before .before .before .before .pre .0) _
-    (sym (a .before .numbers-small .ensures) ∙ not-false _ (a .if1 .left))
+    decides _ _ _ (a .before .before .before .before .before .pre .0) _
+    (sym (rw (a .before .before .coordinate-limit .ensures) at (a .before .numbers-small .ensures)) ∙ not-false _ (a .if1 .left))
     (sym (w .before .padding-small .ensures) ∙ not-false _ (w .if2 .left))
     (sym (b .before .vertices-in-box .ensures) ∙ not-false _ (b .if3 .left))
     (sym (d .before .planes-right .ensures) ∙ not-false _ (d .if4 .left))
@@ -52,6 +57,7 @@ pub numbers-right-spec : {M : Type 1} → statement M
 numbers-right-spec =
     tie.close
     (tie.spec
+    coordinate-limit-requires
     numbers-small-requires
     returns
     padding-small-requires

@@ -5,31 +5,30 @@ use native.Mathlib.Omega.{arith}
 use borrow.Author.Needs.{needs}
 use Rattle.hull_links.specs.Tests.{all}
 use Rattle.hull_links.proofs.Tests.{all-none, all-and, all-end}
-use Rattle.hull.specs.Rule8.{smallAt}
 use Rattle.hull.specs.inner.Passes.{smallFrom}
 use Rattle.hull.proofs.rule8.numbers_small.Statement.{statement}
 use Rattle.hull.proofs.rule8.numbers_small.Tie as tie
 
 abbrev Inv-loop : tie.InvT-loop
-Inv-loop numbers from n ok₀ i₀ ok i = (i ≤ n) × (ok ≡ all (smallFrom numbers from) i)
+Inv-loop numbers limit from n ok₀ i₀ ok i = (i ≤ n) × (ok ≡ all (smallFrom limit numbers from) i)
 
 abbrev μ-loop : tie.MeasureT-loop
-μ-loop numbers from n ok₀ i₀ ok i = n - i
+μ-loop numbers limit from n ok₀ i₀ ok i = n - i
 
 loop-holds : tie.Need-loop-holds Inv-loop μ-loop
 loop-holds c = (search needs, sym (all-none _))
 
-add-is-small : tie.Need-add-is-small Inv-loop μ-loop
-add-is-small c = search needs
+add-is-within : tie.Need-add-is-within Inv-loop μ-loop
+add-is-within c = search needs
 
-mul-is-small : tie.Need-mul-is-small Inv-loop μ-loop
-mul-is-small c = search needs
+mul-is-within : tie.Need-mul-is-within Inv-loop μ-loop
+mul-is-within c = search needs
 
-shared-slice-read-is-small : tie.Need-shared-slice-read-is-small Inv-loop μ-loop
-shared-slice-read-is-small c = search needs
+shared-slice-read-is-within : tie.Need-shared-slice-read-is-within Inv-loop μ-loop
+shared-slice-read-is-within c = search needs
 
-is-small-requires : tie.Need-is-small-requires Inv-loop μ-loop
-is-small-requires c κs = search needs
+is-within-requires : tie.Need-is-within-requires Inv-loop μ-loop
+is-within-requires c κs = search needs
 
 add-i : tie.Need-add-i Inv-loop μ-loop
 add-i c = search needs
@@ -38,8 +37,8 @@ loop-less : tie.Need-loop-less Inv-loop μ-loop
 loop-less c = search needs
 
 loop-again : tie.Need-loop-again Inv-loop μ-loop
-unfolding smallFrom smallAt
-loop-again c = (omega arith, all-and _ _ _ _ (c .before .before .before .loop .inv .1) (c .is-small .ensures))
+unfolding smallFrom
+loop-again c = (omega arith, all-and _ _ _ _ (c .before .before .before .loop .inv .1) (c .is-within .ensures))
 
 returns : tie.Need-returns Inv-loop μ-loop
 returns c = all-end _ _ _ _ (omega arith) (omega arith) (c .before .loop .inv .1)
@@ -51,10 +50,10 @@ numbers-small-spec =
     Inv-loop
     μ-loop
     loop-holds
-    add-is-small
-    mul-is-small
-    shared-slice-read-is-small
-    is-small-requires
+    add-is-within
+    mul-is-within
+    shared-slice-read-is-within
+    is-within-requires
     add-i
     loop-less
     loop-again

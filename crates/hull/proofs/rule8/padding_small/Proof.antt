@@ -5,6 +5,9 @@ use Rattle.hull_limits.proofs.Joined.{and3}
 use Rattle.hull.proofs.rule8.padding_small.Statement.{statement}
 use Rattle.hull.proofs.rule8.padding_small.Tie as tie
 
+coordinate-limit-requires : tie.Need-coordinate-limit-requires
+coordinate-limit-requires c κs = search needs
+
 padded-requires : tie.Need-padded-requires
 padded-requires c κs = search needs
 
@@ -47,13 +50,14 @@ numbers-small-requires-3 c κs = search needs
 returns : tie.Need-returns
 unfolding paddingSmall
 returns c =
-    rw (← c .before .before .before .padded .ensures)
+    rw (← c .before .before .before .padded .ensures, ← c .before .before .before .before .coordinate-limit .ensures)
     (and3 (c .before .before .numbers-small .ensures) (c .before .numbers-small2 .ensures) (c .numbers-small3 .ensures))
 
 pub padding-small-spec : {M : Type 1} → statement M
 padding-small-spec =
     tie.close
     (tie.spec
+    coordinate-limit-requires
     padded-requires
     add-numbers-small
     sub-numbers-small

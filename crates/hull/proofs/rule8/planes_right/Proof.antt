@@ -1,5 +1,5 @@
 -- `planes_right`: before each turn, ok tells whether all planes so far are right.
-use mathlib.Core.Path.{_≡_, sym, ap, _∙_}
+use mathlib.Core.Path.{_≡_, sym, ap₂, _∙_}
 use Prim.Native.Nat.{_-_, _≤_}
 use native.Mathlib.Omega.{arith}
 use borrow.Author.Needs.{needs}
@@ -11,10 +11,13 @@ use Rattle.hull.proofs.rule8.planes_right.Statement.{statement}
 use Rattle.hull.proofs.rule8.planes_right.Tie as tie
 
 abbrev Inv-loop : tie.InvT-loop
-Inv-loop numbers size n ok₀ i₀ ok i = (i ≤ n) × (ok ≡ all (planeRightAt size numbers) i)
+Inv-loop numbers size limit n ok₀ i₀ ok i = (i ≤ n) × (ok ≡ all (planeRightAt size numbers) i)
 
 abbrev μ-loop : tie.MeasureT-loop
-μ-loop numbers size n ok₀ i₀ ok i = n - i
+μ-loop numbers size limit n ok₀ i₀ ok i = n - i
+
+offset-limit-requires : tie.Need-offset-limit-requires Inv-loop μ-loop
+offset-limit-requires c κs = search needs
 
 loop-holds : tie.Need-loop-holds Inv-loop μ-loop
 loop-holds c = (search needs, sym (all-none _))
@@ -33,11 +36,12 @@ loop-less c = search needs
 
 loop-again : tie.Need-loop-again Inv-loop μ-loop
 unfolding planeRightAt
-loop-again c = (
-  omega arith,
-  all-and _ _ _ _ (c .before .before .before .loop .inv .1) (c .plane-right .ensures
-      ∙ ap planeRight (c .before .plane-at .ensures)),
-)
+loop-again c =
+    let l = c .before .before .before in (
+      omega arith,
+      all-and _ _ _ _ (l .loop .inv .1) (c .plane-right .ensures ∙ ap₂ planeRight (l .before .offset-limit .ensures)
+          (c .before .plane-at .ensures)),
+    )
 
 returns : tie.Need-returns Inv-loop μ-loop
 returns c = all-end _ _ _ _ (omega arith) (omega arith) (c .before .loop .inv .1)
@@ -48,6 +52,7 @@ planes-right-spec =
     (tie.spec
     Inv-loop
     μ-loop
+    offset-limit-requires
     loop-holds
     plane-at-requires
     plane-right-requires

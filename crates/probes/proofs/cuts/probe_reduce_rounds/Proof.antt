@@ -2,6 +2,7 @@
 use Prim.Native.Nat.{_-_, _≤_}
 use mathlib.Core.Path.{ap}
 use native.Mathlib.Omega.{arith}
+use Rattle.units.specs.Limits.{speculative}
 use Rattle.manifold.specs.declared.Contact.{Contact}
 use Rattle.manifold.specs.Polygons.{cornersOf}
 use Rattle.reduce_points.specs.Points.{contactOf}
@@ -12,11 +13,11 @@ use Rattle.probes.proofs.cuts.probe_reduce_rounds.Statement.{statement}
 use Rattle.probes.proofs.cuts.probe_reduce_rounds.Tie as tie
 
 abbrev Inv-loop : tie.InvT-loop
-Inv-loop images normal direction rounds total₀ i₀ total i =
-    (i ≤ rounds) × Summed (contactOf normal (pointsOf (firstPicks direction normal (cornersOf images)) (cornersOf images)) .count) total i
+Inv-loop unit images normal direction rounds total₀ i₀ total i =
+    (i ≤ rounds) × Summed (contactOf normal (pointsOf (firstPicks (speculative unit) direction normal (cornersOf images)) (cornersOf images)) .count) total i
 
 abbrev μ-loop : tie.MeasureT-loop
-μ-loop images normal direction rounds total₀ i₀ total i = rounds - i
+μ-loop unit images normal direction rounds total₀ i₀ total i = rounds - i
 
 loop-holds : tie.Need-loop-holds Inv-loop μ-loop
 loop-holds c = (omega arith, none-summed _)
@@ -29,7 +30,7 @@ cast-total c = search needs
 
 add-total : tie.Need-add-total Inv-loop μ-loop
 add-total c = let l = c .before .before .before in
-    let few = four-most _ _ _ _ (c .before .reduce-manifold-points .ensures) in
+    let few = four-most _ _ _ _ _ (c .before .reduce-manifold-points .ensures) in
     omega (arith, few, l .loop .inv .1 .most, l .loop .inv .0, l .before .pre .1)
 
 add-i : tie.Need-add-i Inv-loop μ-loop
@@ -40,7 +41,7 @@ loop-less c = search needs
 
 loop-again : tie.Need-loop-again Inv-loop μ-loop
 loop-again c = let l = c .before .before .before in
-    let few = four-most _ _ _ _ (c .before .reduce-manifold-points .ensures) in (
+    let few = four-most _ _ _ _ _ (c .before .reduce-manifold-points .ensures) in (
       omega (arith, c .before .before .loop-test .taken),
       one-more _ _ _ _ (l .loop .inv .1) (ap (λ (x : Contact). x .count) (c .before .reduce-manifold-points .ensures)) (omega (arith, few)),
     )

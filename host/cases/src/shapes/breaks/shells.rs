@@ -22,7 +22,7 @@ pub fn copy_beside(shape: &mut Shape, n: &mut Numbers) -> bool {
 /// Every hull allows it.
 pub fn shells_in_its_place(shape: &mut Shape, n: &mut Numbers) -> bool {
     let solid = (SHELLS[n.below(SHELLS.len())].solid)(n);
-    *shape = Shape::any(&solid.placed(10.0, n), n);
+    *shape = Shape::any(&solid.placed(10.0, n), n).in_unit(shape.unit());
     true
 }
 
@@ -50,7 +50,7 @@ pub fn shells_with_one_face(shape: &mut Shape, n: &mut Numbers) -> bool {
 
 fn put_tetrahedron(shape: &mut Shape, n: &mut Numbers) -> bool {
     let (_, solid) = TETRAHEDRA;
-    let tetrahedron = Shape::any(&solid(n).placed(10.0, n), n);
+    let tetrahedron = Shape::any(&solid(n).placed(10.0, n), n).in_unit(shape.unit());
     put(shape, &tetrahedron, n)
 }
 

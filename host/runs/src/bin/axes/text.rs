@@ -5,7 +5,7 @@ use cases::pairs::Pair;
 use cases::sorts::{acceptable, SORTS};
 use cases::{convert, met, one_in, Numbers, Tally};
 use oracle::open::{AxisQuery, SeparatingFeature};
-use probes::Placed;
+use probes::{Placed, Unit};
 use runs::accepted;
 use runs::searches::{answer, same_answers};
 
@@ -21,6 +21,16 @@ struct Met {
     b_wins: u64,
     tie: u64,
     edge_above: u64,
+    units: [OfUnit; 4],
+}
+
+/// Pairs of one unit.
+#[derive(Default)]
+struct OfUnit {
+    apart: u64,
+    found: u64,
+    /// The better face is just the speculative distance away, at which the search goes on.
+    at_speculative: u64,
 }
 
 pub fn run(n: &mut Numbers, count: usize) -> bool {
@@ -29,11 +39,23 @@ pub fn run(n: &mut Numbers, count: usize) -> bool {
     for (name, make) in SORTS {
         let mut t = Tally::default();
         for _ in 0..count {
-            searched(&mut t, &mut m, &acceptable(make, n));
+            let unit = n.unit();
+            searched(&mut t, &mut m, &acceptable(make, unit, n));
         }
         good &= t.report(&format!("axis searches, {name}"));
     }
-    let (often, least) = (one_in(5, count), one_in(20, count));
+    let (often, least, few) = (one_in(5, count), one_in(20, count), one_in(100, count));
+    for (unit, of) in Unit::ALL.into_iter().zip(&m.units) {
+        good &= met(&[
+            (&format!("in {unit}: apart"), of.apart, often),
+            ("found", of.found, often),
+            (
+                "exactly at the speculative distance",
+                of.at_speculative,
+                few,
+            ),
+        ]);
+    }
     good & met(&[
         ("apart along a face of A", m.apart_a, often),
         ("along a face of B", m.apart_b, often),
@@ -52,7 +74,7 @@ pub fn run(n: &mut Numbers, count: usize) -> bool {
 fn searched(t: &mut Tally, m: &mut Met, pair: &Pair) {
     let query = Work::of_pair(pair).search();
     let theirs = answer(&query);
-    let placed = Placed::new(convert::our_transform(pair.transform));
+    let placed = Placed::new(pair.unit(), convert::our_transform(pair.transform));
     let ours = probes::compute_separating_axis(accepted(&pair.a), accepted(&pair.b), placed);
     t.compare(same_answers(&ours, &theirs), || {
         format!("{ours:?}, {theirs:?}: {pair:?}")
@@ -62,6 +84,15 @@ fn searched(t: &mut Tally, m: &mut Met, pair: &Pair) {
 
 impl Met {
     fn add(&mut self, pair: &Pair, query: &AxisQuery) {
+        let place = Unit::ALL.iter().position(|&unit| unit == pair.unit());
+        let of = &mut self.units[place.expect("one of the four")];
+        if query.separated_feature == SeparatingFeature::InvalidAxis {
+            let best = query.face_a.separation.max(query.face_b.separation);
+            of.found += 1;
+            of.at_speculative += u64::from(best == pair.unit().speculative_distance());
+        } else {
+            of.apart += 1;
+        }
         match query.separated_feature {
             SeparatingFeature::FaceAxisA => self.apart_a += 1,
             SeparatingFeature::FaceAxisB => self.apart_b += 1,

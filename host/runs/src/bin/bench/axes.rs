@@ -10,7 +10,7 @@ use cases::{convert, pairs, Numbers};
 use oracle::hull::HullData;
 use oracle::math_functions as reading;
 use oracle::open::{search, AxisQuery, SeparatingFeature};
-use probes::{Accepted, Placed, Searched};
+use probes::{Accepted, Placed, Searched, Unit};
 use runs::accepted;
 use runs::searches::{answer, same_answers};
 
@@ -56,7 +56,7 @@ fn settled(n: &mut Numbers) {
             ours: (
                 accepted(&stack.logs[pair.a]),
                 accepted(&stack.logs[pair.b]),
-                Placed::new(pair.transform),
+                Placed::new(Unit::Metres, pair.transform),
             ),
             theirs: (
                 &hulls[pair.a],
@@ -92,7 +92,7 @@ fn largest(n: &mut Numbers) {
             ours: (
                 accepted(&pair.a),
                 accepted(&pair.b),
-                Placed::new(convert::our_transform(pair.transform)),
+                Placed::new(Unit::Metres, convert::our_transform(pair.transform)),
             ),
             theirs: (a, b, pair.transform),
         })

@@ -13,7 +13,9 @@ use oracle::hull::HullData;
 use oracle::math_functions::{self as reading, arbitrary_perp, dot};
 use oracle::open::{search, Buffers, LocalManifoldPoint, Prepared};
 use oracle::transcribed::FaceCuts;
-use probes::{Accepted, ClipVertex, FeaturePair, Places, Plane, Polygon, Quat, Transform, Vec3};
+use probes::{
+    Accepted, ClipVertex, FeaturePair, Places, Plane, Polygon, Quat, Transform, Unit, Vec3,
+};
 use runs::corners;
 use std::cell::RefCell;
 use std::f64::consts::TAU;
@@ -26,6 +28,8 @@ const ROUNDS: usize = 32;
 
 /// The half-edge that cuts.
 const EDGE: u8 = 9;
+
+const METRES: usize = Unit::Metres.per_metre();
 
 pub fn run(numbers: &mut Numbers) {
     head("a cut", "Rust text");
@@ -173,10 +177,11 @@ fn reductions(size: usize, rounds: usize, n: &mut Numbers) {
         &inputs,
         |r| match rounds {
             1 => {
-                let contact = probes::reduce_manifold_points(&r.polygon, r.normal, r.direction);
+                let contact =
+                    probes::reduce_manifold_points(METRES, &r.polygon, r.normal, r.direction);
                 contact.count.into()
             }
-            _ => probes::reduce_rounds(&r.polygon, r.normal, r.direction, rounds),
+            _ => probes::reduce_rounds(METRES, &r.polygon, r.normal, r.direction, rounds),
         },
         |r| {
             let normal = convert::vector(r.normal);

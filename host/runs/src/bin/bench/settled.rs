@@ -8,7 +8,7 @@ use cases::settled::{Class, Pair, Stack};
 use cases::Numbers;
 use oracle::hull::HullData;
 use oracle::open::{search, SeparatingFeature};
-use records::{SatCache, Transform};
+use records::{SatCache, Transform, Unit};
 
 const LOGS: usize = 64;
 pub const PAIRS: usize = 2000;
@@ -95,7 +95,7 @@ impl Settled {
             let mut frames = Vec::new();
             for _ in 0..FRAMES {
                 frames.push(convert::our_transform(there));
-                there = moved(there, STEP, n);
+                there = moved(there, STEP, Unit::Metres, n);
             }
             let stays = |&frame: &Transform| {
                 let feature = search(a, b, convert::transform(frame), true).separated_feature;

@@ -34,20 +34,9 @@ pub fn run(numbers: &mut Numbers) {
             batches(most),
             what,
             || judged(&shapes, runs::broken_rule),
-            || judged(&shapes, plain_rule),
+            || judged(&shapes, cases::shapes::broken_rule),
         );
     }
-}
-
-fn plain_rule(hull: HullLists) -> u8 {
-    let size = hull.size;
-    validator::first_broken_rule(
-        hull.numbers,
-        hull.links,
-        size.vertices,
-        size.half_edges,
-        size.faces,
-    )
 }
 
 /// Nanoseconds a call on these good hulls in turn, each at least once.

@@ -15,7 +15,8 @@ struct Ways {
     apart: u64,
     /// No points, though no axis keeps the two apart.
     nothing: u64,
-    refused: [u64; 7],
+    /// By the number.
+    refused: [u64; 18],
     small_capacity: u64,
 }
 
@@ -54,18 +55,19 @@ impl Ways {
     fn report(&self, kind: u8, count: usize) -> bool {
         let text = u64::from(cfg!(rust_text));
         let [often, few, very_few] = [2, 50, 200].map(|of| one_in(of, count));
-        let [_, a, b, transform, _, padding, cut] = self.refused;
+        let of = |refusal: usize| self.refused[refusal];
         let touching = format!("type {kind} is retired; marked: touching");
         met(&[
             (&touching, self.touching, text * often),
             ("apart", self.apart, text * often),
             ("neither", self.nothing, text * few),
             ("not marked: capacity below 4", self.small_capacity, often),
-            ("refused by 1", a, often),
-            ("2", b, often),
-            ("3", transform, often),
-            ("5", padding, text * very_few),
-            ("6", cut, text * few),
+            ("refused by 1", of(1), often),
+            ("2", of(2), often),
+            ("17", of(17), often),
+            ("3", of(3), often),
+            ("5", of(5), text * very_few),
+            ("6", of(6), text * few),
         ])
     }
 }

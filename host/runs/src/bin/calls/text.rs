@@ -23,7 +23,8 @@ pub fn run(n: &mut Numbers, count: usize, retired: &mut Retired) -> bool {
     for (name, make) in SORTS.into_iter().chain(MORE).chain([BANDS]) {
         let mut t = Tally::default();
         for _ in 0..count {
-            let pair = acceptable(make, n);
+            let unit = n.unit();
+            let pair = acceptable(make, unit, n);
             Series::new(pair, &mut |call| all.held(&mut t, call)).twelve(n);
         }
         good &= t.report(&format!("calls, {name}"));
@@ -32,7 +33,8 @@ pub fn run(n: &mut Numbers, count: usize, retired: &mut Retired) -> bool {
     let pairs = count.div_ceil(100);
     for place in 0..pairs {
         let (_, make) = SORTS[n.below(SORTS.len())];
-        let pair = acceptable(make, n);
+        let unit = n.unit();
+        let pair = acceptable(make, unit, n);
         let mut ask = |call: &Call| all.held(&mut t, call);
         let mut series = Series::new(pair, &mut ask);
         series.every_type_and_index(n);
@@ -44,7 +46,7 @@ pub fn run(n: &mut Numbers, count: usize, retired: &mut Retired) -> bool {
     good &= t.report("calls, every type and every index, capacities on both sides of 4");
     let mut t = Tally::default();
     for _ in 0..count.div_ceil(10) {
-        let pair = tiny_parts(n);
+        let pair = tiny_parts(n.unit(), n);
         Series::new(pair, &mut |call| all.held(&mut t, call)).every_pair_of_edges(n);
     }
     good &= t.report("calls, every pair of edges, normals with tiny parts");

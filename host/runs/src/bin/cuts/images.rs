@@ -3,14 +3,16 @@
 
 use super::hold::polygon_is;
 use super::lists;
-use cases::{convert, same, Numbers, Tally, SPECULATIVE};
+use cases::shapes::breaks::UNKNOWN_UNITS;
+use cases::sorts::about;
+use cases::{convert, same, Numbers, Tally};
 use oracle::math_functions::{min_float, mul_sub};
-use probes::ClipVertex;
+use probes::{ClipVertex, Unit};
 
 pub fn images(n: &mut Numbers, count: usize) -> Tally {
     let mut t = Tally::default();
     for _ in 0..count {
-        let (normal, list) = lists::any(n);
+        let (normal, list) = lists::any(n.unit(), n);
         let mut min_separation = f32::MAX;
         let mut points: Vec<ClipVertex> = Vec::new();
         for clip_point in &list {
@@ -35,17 +37,34 @@ pub fn images(n: &mut Numbers, count: usize) -> Tally {
     t
 }
 
-/// "Fewer than 3 left, or least separation at or above speculative: not touching."
+/// "Fewer than 3 left, or least separation at or above speculative: not touching." In each unit; a number that is none acts as 1.
 pub fn touching(n: &mut Numbers) -> Tally {
     let mut t = Tally::default();
-    let ends = [SPECULATIVE.next_down(), SPECULATIVE, SPECULATIVE.next_up()];
-    let any: Vec<f32> = (0..100).map(|_| n.float()).collect();
-    for count in (0..=65).chain([usize::MAX]) {
-        for &least in ends.iter().chain(&cases::SPECIAL).chain(&any) {
-            let ours = probes::touching(count, least);
-            let apart = count < 3 || least >= SPECULATIVE;
-            t.compare(ours != apart, || format!("touching of {count}, {least}"));
-        }
+    for unit in Unit::ALL {
+        touching_in(&mut t, unit.per_metre(), unit, n);
+    }
+    for unknown in UNKNOWN_UNITS {
+        touching_in(&mut t, unknown, Unit::Metres, n);
     }
     t
+}
+
+fn touching_in(t: &mut Tally, number: usize, unit: Unit, n: &mut Numbers) {
+    let distance = unit.speculative_distance();
+    let ends = Unit::ALL.map(|unit| about(unit.speculative_distance()));
+    let any: Vec<f32> = (0..100).map(|_| n.float()).collect();
+    for count in (0..=65).chain([usize::MAX]) {
+        for &least in ends
+            .as_flattened()
+            .iter()
+            .chain(&cases::SPECIAL)
+            .chain(&any)
+        {
+            let ours = probes::touching(number, count, least);
+            let apart = count < 3 || least >= distance;
+            t.compare(ours != apart, || {
+                format!("touching of {count}, {least} in unit {number}")
+            });
+        }
+    }
 }

@@ -3,12 +3,13 @@
 
 use cases::inputs::{rounded, vector};
 use cases::shapes::solids::frame;
-use cases::{Numbers, SPECULATIVE};
-use probes::{ClipVertex, FeaturePair, Polygon, Vec3};
+use cases::sorts::about;
+use cases::Numbers;
+use probes::{ClipVertex, FeaturePair, Polygon, Unit, Vec3};
 use std::f64::consts::TAU;
 
-/// A normal and 0 to 64 candidates, most of them about a plane across it.
-pub fn any(n: &mut Numbers) -> (Vec3, Vec<ClipVertex>) {
+/// A normal and 0 to 64 candidates in this unit, most of them about a plane across it.
+pub fn any(unit: Unit, n: &mut Numbers) -> (Vec3, Vec<ClipVertex>) {
     let [u, v, w] = match n.below(3) {
         0 => [[1.0, 0.0, 0.0], [0.0, 1.0, 0.0], [0.0, 0.0, 1.0]],
         1 => [[0.0, 1.0, 0.0], [0.0, 0.0, -1.0], [-1.0, 0.0, 0.0]],
@@ -26,14 +27,15 @@ pub fn any(n: &mut Numbers) -> (Vec3, Vec<ClipVertex>) {
     };
     let flat = flat_positions(size, n);
     let rough = [0.0, 0.0, 0.01, 1.0][n.below(4)];
+    let metre = f64::from(unit.scale());
     let mut list: Vec<ClipVertex> = flat
         .into_iter()
-        .zip(separations(size, n))
+        .zip(separations(size, unit, n))
         .map(|([x, y], separation)| {
             let z = rough * n.between(-1.0, 1.0);
             let position = [0, 1, 2].map(|axis| x * u[axis] + y * v[axis] + z * w[axis]);
             ClipVertex {
-                position: rounded(position),
+                position: rounded(position.map(|x| metre * x)),
                 separation,
                 pair: pair(n),
             }
@@ -93,17 +95,18 @@ fn flat_positions(size: usize, n: &mut Numbers) -> Vec<[f64; 2]> {
 }
 
 /// About the speculative distance, all beyond it, all alike, some way deep, or floats of any sort.
-fn separations(size: usize, n: &mut Numbers) -> Vec<f32> {
-    let near = [SPECULATIVE, SPECULATIVE.next_up(), SPECULATIVE.next_down()];
-    let alike = [0.0, -0.0, -0.01, near[n.below(3)]][n.below(4)];
+fn separations(size: usize, unit: Unit, n: &mut Numbers) -> Vec<f32> {
+    let (distance, metre) = (unit.speculative_distance(), unit.scale());
+    let near = about(distance);
+    let alike = [0.0, -0.0, -0.01 * metre, near[n.below(3)]][n.below(4)];
     let sort = n.below(7);
     let mut separation = || match sort {
         0 => near[n.below(3)],
-        1 => SPECULATIVE.next_up() + (n.fraction() + 1.0),
+        1 => distance.next_up() + metre * (n.fraction() + 1.0),
         2 => alike,
         3 => n.float(),
-        4 => n.fraction() * 1e-3,
-        _ => n.fraction() * 0.05,
+        4 => n.fraction() * 1e-3 * metre,
+        _ => n.fraction() * 0.05 * metre,
     };
     (0..size).map(|_| separation()).collect()
 }

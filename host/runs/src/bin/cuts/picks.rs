@@ -4,20 +4,21 @@ use super::hold::{contact_is, point_of};
 use super::lists;
 use cases::{convert, Numbers, Tally};
 use oracle::math_functions::arbitrary_perp;
-use probes::{Contact, Point, Polygon, Vec3};
+use probes::{Contact, Point, Polygon, Unit, Vec3};
 
-/// The contact of these candidates; the first pick goes along the text's direction.
-pub fn contact(candidates: &Polygon, normal: Vec3) -> Contact {
+/// The contact of these candidates in this unit; the first pick goes along the text's direction.
+pub fn contact(unit: Unit, candidates: &Polygon, normal: Vec3) -> Contact {
     let direction = convert::ours(arbitrary_perp(convert::vector(normal)));
-    probes::reduce_manifold_points(candidates, normal, direction)
+    probes::reduce_manifold_points(unit.per_metre(), candidates, normal, direction)
 }
 
 /// Each point is the candidate at its place, no two places are the same, and four or fewer come all and in order.
 pub fn each_once(n: &mut Numbers, count: usize) -> Tally {
     let mut t = Tally::default();
     for _ in 0..count {
-        let (normal, list) = lists::any(n);
-        let ours = contact(&lists::lent(&list, n), normal);
+        let unit = n.unit();
+        let (normal, list) = lists::any(unit, n);
+        let ours = contact(unit, &lists::lent(&list, n), normal);
         let made = usize::from(ours.count).min(ours.points.len());
         let places: Vec<u8> = ours.points[..made].iter().map(|p| p.place).collect();
         let taken: Vec<Point> = (places.iter())

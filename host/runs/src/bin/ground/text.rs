@@ -1,8 +1,9 @@
 //! Lanes, pairs and limits beside the Rust text.
 
 use super::*;
+use cases::shapes::breaks::UNKNOWN_UNITS;
 use oracle::open;
-use probes::{FeaturePair, FloatW};
+use probes::{FeaturePair, FloatW, Unit};
 
 /// Numbers take the low seven bits.
 const BITS: i32 = 7;
@@ -125,21 +126,40 @@ fn text_four(p: open::FeaturePair) -> [u8; 4] {
     [p.owner1, p.index1, p.owner2, p.index2]
 }
 
+/// In each unit; a number that is none acts as 1.
 pub fn limits() -> Tally {
-    use oracle::constants::{huge, linear_slop, speculative_distance};
     let mut t = Tally::default();
-    let ours = probes::limits();
-    let units = oracle::core::get_length_units_per_meter();
-    let rows = [
-        ("linear_slop", ours.slop, linear_slop()),
-        (
-            "speculative_distance",
-            ours.speculative,
-            speculative_distance(),
-        ),
-        ("huge", ours.huge, huge()),
-        ("get_length_units_per_meter", ours.units, units),
-    ];
-    hold_numbers(&mut t, &(), &rows);
+    for unit in Unit::ALL {
+        hold_limits(&mut t, unit.per_metre(), unit);
+    }
+    for unknown in UNKNOWN_UNITS {
+        hold_limits(&mut t, unknown, Unit::Metres);
+    }
     t
+}
+
+/// The lengths of this number beside the text's in a unit, and beside documents 01's limits times the unit.
+fn hold_limits(t: &mut Tally, number: usize, unit: Unit) {
+    use oracle::constants::{huge, linear_slop, speculative_distance};
+    use oracle::core::{get_length_units_per_meter, with_length_units};
+    let ours = probes::limits(number);
+    let times = |limit: f64| (limit * unit.per_metre() as f64) as f32;
+    let [slop, speculative, huge, units] = with_length_units(unit.scale(), || {
+        [
+            linear_slop(),
+            speculative_distance(),
+            huge(),
+            get_length_units_per_meter(),
+        ]
+    });
+    let rows = [
+        ("linear_slop", ours.slop, slop),
+        ("speculative_distance", ours.speculative, speculative),
+        ("huge", ours.huge, huge),
+        ("get_length_units_per_meter", ours.units, units),
+        ("4096", ours.coordinate, times(4096.0)),
+        ("8192", ours.offset, times(8192.0)),
+        ("1/1024", ours.edge, times(1.0 / 1024.0)),
+    ];
+    hold_numbers(t, &number, &rows);
 }

@@ -3,11 +3,21 @@
 use super::{any_shape, compact, Total};
 use cases::shapes::kinds::COMPACT;
 use cases::shapes::{Link, Shape};
+use cases::sorts::about;
 use cases::{Numbers, SPECIAL};
+use records::Unit;
 
-/// The limits of H8.
-const LIMITS: [f32; 5] = [4096.0, 8192.0, SHORTEST, LEAST_SUM, MOST_SUM];
-const SHORTEST: f32 = 1.0 / 1024.0;
+/// The limits of H8 in a unit.
+fn limits(unit: Unit) -> [f32; 5] {
+    [
+        unit.farthest(),
+        unit.farthest_offset(),
+        unit.shortest_edge(),
+        LEAST_SUM,
+        MOST_SUM,
+    ]
+}
+
 const LEAST_SUM: f32 = 0.99;
 const MOST_SUM: f32 = 1.01;
 
@@ -15,7 +25,8 @@ pub fn run(total: &mut Total, n: &mut Numbers, count: usize) {
     total.sort("every float", |sort| {
         for i in 0..count.div_ceil(300) {
             let solid = COMPACT[i % COMPACT.len()].1(n);
-            every_float(Shape::any(&solid, n), |shape| sort.hold(shape));
+            let shape = Shape::any(&solid, n).in_unit(Unit::ALL[i % 4]);
+            every_float(shape, |shape| sort.hold(shape));
         }
     });
     total.sort("normals at both ends", |sort| {
@@ -29,13 +40,13 @@ pub fn run(total: &mut Total, n: &mut Numbers, count: usize) {
     });
     total.sort("shortest edges", |sort| {
         for i in 0..count {
-            let (shape, answer) = short_edge(i % 2 == 0, n);
+            let (shape, answer) = short_edge(i % 2 == 0, n.unit(), n);
             sort.expect(&shape, answer);
         }
     });
     total.sort("edges that round to the shortest", |sort| {
         for _ in 0..count {
-            sort.hold(&rounded_edge(n));
+            sort.hold(&rounded_edge(n.unit(), n));
         }
     });
     total.sort("vertices on the box", |sort| {
@@ -63,9 +74,9 @@ pub fn run(total: &mut Total, n: &mut Numbers, count: usize) {
 
 /// Each float set to each special value, and to each limit of either sign and its neighbours.
 fn every_float(mut shape: Shape, mut hold: impl FnMut(&Shape)) {
-    let ends = LIMITS.map(|x| [x.next_down(), x, x.next_up()]).concat();
+    let ends = limits(shape.unit()).into_iter().flat_map(about);
     let values: Vec<f32> = (SPECIAL.into_iter())
-        .chain(ends.iter().flat_map(|&x| [x, -x]))
+        .chain(ends.flat_map(|x| [x, -x]))
         .collect();
     for place in 0..shape.numbers.len() {
         let kept = shape.numbers[place];
@@ -110,9 +121,9 @@ pub fn with_sum<const N: usize>(sum: f32, n: &mut Numbers) -> [f32; N] {
     }
 }
 
-/// A hull with the ends of an edge where these two points are.
-fn with_edge(from: [f32; 3], to: [f32; 3], n: &mut Numbers) -> Shape {
-    let mut shape = Shape::any(&compact(n).turned(n), n);
+/// A hull in this unit with the ends of an edge where these two points are.
+fn with_edge(from: [f32; 3], to: [f32; 3], unit: Unit, n: &mut Numbers) -> Shape {
+    let mut shape = Shape::any(&compact(n).turned(n), n).in_unit(unit);
     let edge = n.below(shape.size.half_edges);
     for (end, point) in [(edge, from), (edge ^ 1, to)] {
         let vertex = shape.get(end, Link::Origin);
@@ -126,32 +137,34 @@ fn with_edge(from: [f32; 3], to: [f32; 3], n: &mut Numbers) -> Shape {
 }
 
 /// A hull with an edge as short as the limit on at least one axis, or a step shorter on all; and its answer.
-fn short_edge(long_enough: bool, n: &mut Numbers) -> (Shape, u8) {
-    let mut arms =
-        [0.0; 3].map(|_| [0.0, 1e-9, SHORTEST.next_down(), -SHORTEST.next_down()][n.below(4)]);
+fn short_edge(long_enough: bool, unit: Unit, n: &mut Numbers) -> (Shape, u8) {
+    let shortest = unit.shortest_edge();
+    let shorter = shortest.next_down();
+    let mut arms = [0.0; 3].map(|_| [0.0, 1e-9, shorter, -shorter][n.below(4)]);
     let axis = n.below(3);
-    arms[axis] = if long_enough {
-        SHORTEST
-    } else {
-        SHORTEST.next_down()
-    };
+    arms[axis] = if long_enough { shortest } else { shorter };
     if n.below(2) == 0 {
         arms[axis] = -arms[axis];
     }
     (
-        with_edge([0.0; 3], arms, n),
+        with_edge([0.0; 3], arms, unit, n),
         if long_enough { 0 } else { 8 },
     )
 }
 
 /// A hull with an edge whose ends differ on one axis by the limit, give or take what rounding may add or hide.
-fn rounded_edge(n: &mut Numbers) -> Shape {
-    let tiny = [1e-45, 1e-12, 2e-11, 5e-11, 1e-10, 1e-6, 0.25, 100.0][n.below(8)];
+fn rounded_edge(unit: Unit, n: &mut Numbers) -> Shape {
+    let tiny = [1e-45, 1e-12, 2e-11, 5e-11, 1e-10, 1e-6, 0.25, 100.0][n.below(8)] * unit.scale();
+    let shortest = unit.shortest_edge();
     let axis = n.below(3);
     let (mut from, mut to) = ([0.0; 3], [0.0; 3]);
     from[axis] = [tiny, -tiny][n.below(2)];
-    let x = [SHORTEST, -SHORTEST][n.below(2)];
-    let x = if tiny < 1e-6 { x } else { x + from[axis] };
-    to[axis] = [x, x.next_up(), x.next_down()][n.below(3)];
-    with_edge(from, to, n)
+    let x = [shortest, -shortest][n.below(2)];
+    let x = if tiny < 1e-6 * unit.scale() {
+        x
+    } else {
+        x + from[axis]
+    };
+    to[axis] = about(x)[n.below(3)];
+    with_edge(from, to, unit, n)
 }

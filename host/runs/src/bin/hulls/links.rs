@@ -5,7 +5,7 @@ use cases::shapes::breaks::{shells, walks, Break};
 use cases::shapes::kinds::COMPACT;
 use cases::shapes::{Link, Padding, Shape};
 use cases::Numbers;
-use probes::HullSize;
+use probes::{HullSize, Unit};
 
 /// A name, the change, and the rule that it breaks.
 const TRAPS: [(&str, Break, u8); 10] = [
@@ -96,6 +96,7 @@ pub fn every_byte(shape: &Shape, n: &mut Numbers, mut hold: impl FnMut(&Shape)) 
         vertices: v,
         half_edges: h,
         faces: f,
+        ..
     } = shape.size;
     let ends = [0, v - 1, v, h - 1, h, f - 1, f, 255].map(|end| end as u8);
     let mut shape = shape.clone();
@@ -168,6 +169,7 @@ fn of_rings(next: &[usize], n: &mut Numbers) -> Shape {
     let (origins, vertex_edges) = cycles(half_edges, |edge| next[edge ^ 1]);
 
     let size = HullSize {
+        unit: Unit::Metres.per_metre(),
         vertices: vertex_edges.len(),
         half_edges,
         faces: face_edges.len(),

@@ -4,13 +4,14 @@
 //!
 //! COUNT scales every sort of hull. One line a sort: how many were compared, how many differ, and how often each answer,
 //! 0 for a good hull or the first broken rule, was met. The run fails where an answer differs, a call runs long, an
-//! answer was never met, or too little was compared: with the COUNT that is taken where none is given, 400,000 hulls, and
-//! 5,000 of them with the answer 9.
+//! answer was never met, or too little was compared: with the COUNT that is taken where none is given, 400,000 hulls, 5,000 of
+//! them with the answer 9, and 2,000 good ones, 2,000 with wrong numbers and 2,000 hulls of no unit for each unit that there is.
 
 use cases::shapes::kinds::{COMPACT, STRETCHED};
 use cases::shapes::solids::Solid;
 use cases::shapes::Shape;
 use cases::{number_argument, Numbers};
+use records::Unit;
 use sort::Total;
 
 mod breaks;
@@ -23,9 +24,10 @@ mod transforms;
 
 const COUNT: u64 = 4000;
 
-/// No run is worth its name below these. The first two go with the count.
+/// No run is worth its name below these. The first three go with the count.
 const LEAST_HULLS: u64 = 400_000;
 const LEAST_SHELLS: u64 = 5_000;
+const LEAST_UNITS: u64 = 2_000;
 const LEAST_TRANSFORMS: u64 = 20_000;
 
 fn main() {
@@ -39,8 +41,9 @@ fn main() {
     links::run(&mut total, &mut numbers, count);
     floats::run(&mut total, &mut numbers, count);
     sizes::run(&mut total, &mut numbers, count);
-    let least = [LEAST_HULLS, LEAST_SHELLS].map(|least| least * given / COUNT);
-    let hulls = total.report(least[0], least[1]);
+    let [least, shells, units] =
+        [LEAST_HULLS, LEAST_SHELLS, LEAST_UNITS].map(|least| least * given / COUNT);
+    let hulls = total.report(least, shells, units);
     let transforms = transforms::compare(&mut numbers, count);
     let mut good = hulls & transforms.report("transforms");
     if transforms.compared < LEAST_TRANSFORMS {
@@ -56,18 +59,21 @@ fn good(total: &mut Total, n: &mut Numbers, count: usize) {
         total.sort(name, |sort| {
             for i in 0..count {
                 let reach = [0.0, 10.0, 1000.0][i % 3];
-                sort.expect(&Shape::any(&solid(n).placed(reach, n), n), 0);
+                let unit = Unit::ALL[i % 4];
+                let shape = Shape::any(&solid(n).placed(reach, n), n);
+                sort.expect(&shape.in_unit(unit), 0);
             }
         });
     }
     total.sort("far from the origin", |sort| {
         for _ in 0..count {
-            sort.expect(&Shape::any(&compact(n).far(n), n), 0);
+            let unit = n.unit();
+            sort.expect(&Shape::any(&compact(n).far(n), n).in_unit(unit), 0);
         }
     });
     total.sort("numbered as they are made", |sort| {
         for _ in 0..count / 4 {
-            sort.expect(&Shape::new(&compact(n)), 0);
+            sort.expect(&Shape::new(&compact(n)).in_unit(n.unit()), 0);
         }
     });
 }
@@ -77,7 +83,8 @@ fn compact(n: &mut Numbers) -> Solid {
     COMPACT[n.below(COMPACT.len())].1(n)
 }
 
-/// A good hull of any compact sort, somewhere near the origin.
+/// A good hull of any compact sort in any unit, somewhere near the origin.
 fn any_shape(n: &mut Numbers) -> Shape {
-    Shape::any(&compact(n).turned(n).placed(10.0, n), n)
+    let unit = n.unit();
+    Shape::any(&compact(n).turned(n).placed(10.0, n), n).in_unit(unit)
 }

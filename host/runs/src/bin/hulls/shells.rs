@@ -13,14 +13,14 @@ pub fn run(total: &mut Total, n: &mut Numbers, count: usize) {
             for i in 0..count {
                 let reach = [0.0, 10.0, 1000.0][i % 3];
                 let solid = (kind.solid)(n).placed(reach, n);
-                sort.expect(&Shape::any(&solid, n), 9);
+                sort.expect(&Shape::any(&solid, n).in_unit(n.unit()), 9);
             }
         });
     }
     total.sort("shells numbered as they are made", |sort| {
         for i in 0..count / 4 {
             let solid = (SHELLS[i % SHELLS.len()].solid)(n);
-            sort.expect(&Shape::new(&solid), 9);
+            sort.expect(&Shape::new(&solid).in_unit(n.unit()), 9);
         }
     });
     total.sort("a tetrahedron beside a hull, each pair first", |sort| {

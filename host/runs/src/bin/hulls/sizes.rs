@@ -1,9 +1,11 @@
-//! Sizes about every limit of H1 and far beyond, with lists that fit them and lists that do not.
+//! Units that there are and that there are not; sizes about every limit of H1 and far beyond, with lists that fit them and lists
+//! that do not.
 
 use super::{any_shape, Total};
+use cases::shapes::breaks::UNKNOWN_UNITS;
 use cases::shapes::Shape;
 use cases::Numbers;
-use probes::HullSize;
+use probes::{HullSize, Unit};
 
 const VERTICES: [usize; 13] = [
     0,
@@ -58,6 +60,28 @@ const FACES: [usize; 13] = [
 const LONGEST: usize = 1 << 20;
 
 pub fn run(total: &mut Total, n: &mut Numbers, count: usize) {
+    total.sort("unknown units", |sort| {
+        for i in 0..count {
+            let mut shape = any_shape(n);
+            let any = [n.word() as usize, n.below(2000)][n.below(2)];
+            let unit = UNKNOWN_UNITS.get(i % 20).copied().unwrap_or(any);
+            shape.size.unit = unit;
+            let known = Unit::try_from(unit).is_ok();
+            sort.compare(
+                &shape.numbers,
+                &shape.links,
+                shape.size,
+                (!known).then_some(1),
+            );
+        }
+    });
+    total.sort("a good hull's lists, other units", |sort| {
+        for i in 0..count {
+            let mut shape = any_shape(n);
+            shape.size.unit = Unit::ALL[i % 4].per_metre();
+            sort.hold(&shape);
+        }
+    });
     let numbers: Vec<f32> = (0..LONGEST).map(|_| n.fraction()).collect();
     let links: Vec<u8> = (0..LONGEST).map(|_| n.word() as u8 % 4).collect();
     total.sort("sizes about the limits", |sort| {
@@ -111,15 +135,20 @@ pub fn run(total: &mut Total, n: &mut Numbers, count: usize) {
     });
 }
 
+/// The units take turns, those that there are and those that there are not.
 fn sizes() -> impl Iterator<Item = HullSize> {
-    VERTICES.into_iter().flat_map(|vertices| {
-        HALF_EDGES.into_iter().flat_map(move |half_edges| {
-            FACES.into_iter().map(move |faces| HullSize {
-                vertices,
-                half_edges,
-                faces,
-            })
-        })
+    let units = Unit::ALL.map(Unit::per_metre).into_iter();
+    let mut units = units.chain(UNKNOWN_UNITS).cycle();
+    let sizes = VERTICES.into_iter().flat_map(|vertices| {
+        HALF_EDGES
+            .into_iter()
+            .flat_map(move |half_edges| FACES.map(|faces| [vertices, half_edges, faces]))
+    });
+    sizes.map(move |[vertices, half_edges, faces]| HullSize {
+        unit: units.next().expect("it goes round"),
+        vertices,
+        half_edges,
+        faces,
     })
 }
 

@@ -1,8 +1,8 @@
 //! What a sort of hulls, and the whole run, has compared.
 
-use cases::shapes::Shape;
+use cases::shapes::{self, Shape};
 use cases::Tally;
-use records::{HullLists, HullSize};
+use records::{HullLists, HullSize, Unit};
 use std::fmt::{Debug, Write};
 use std::time::{Duration, Instant};
 
@@ -19,7 +19,52 @@ type Answers = [u64; 10];
 pub struct Sort {
     tally: Tally,
     answers: Answers,
+    units: Units,
     slow: u64,
+}
+
+/// How often hulls of each unit were met, and of none.
+#[derive(Default)]
+struct Units {
+    good: [u64; 4],
+    /// Broken by the numbers, which is a matter of the unit's limits.
+    numbers: [u64; 4],
+    unknown: u64,
+}
+
+impl Units {
+    fn add(&mut self, size: HullSize, answer: u8) {
+        let Ok(unit) = size.known_unit() else {
+            self.unknown += 1;
+            return;
+        };
+        let place = Unit::ALL.iter().position(|&own| own == unit);
+        let place = place.expect("one of the four");
+        self.good[place] += u64::from(answer == 0);
+        self.numbers[place] += u64::from(answer == 8);
+    }
+
+    fn add_all(&mut self, other: &Units) {
+        for place in 0..4 {
+            self.good[place] += other.good[place];
+            self.numbers[place] += other.numbers[place];
+        }
+        self.unknown += other.unknown;
+    }
+
+    /// Each was met at least so often.
+    fn report(&self, least: u64) -> bool {
+        let [good, numbers] = [self.good, self.numbers].map(|counts| {
+            let list: Vec<String> = counts.iter().map(u64::to_string).collect();
+            list.join(" ")
+        });
+        let unknown = self.unknown;
+        println!(
+            "units 1, 10, 100, 1000: good {good}; H8 broken {numbers}; unknown units {unknown}"
+        );
+        let all = self.good.iter().chain(&self.numbers).chain([&self.unknown]);
+        all.into_iter().all(|&count| count >= least)
+    }
 }
 
 impl Sort {
@@ -41,12 +86,7 @@ impl Sort {
             size,
         };
         let ours = self.timed(|| runs::broken_rule(hull), size);
-        let HullSize {
-            vertices,
-            half_edges,
-            faces,
-        } = size;
-        let theirs = validator::first_broken_rule(numbers, links, vertices, half_edges, faces);
+        let theirs = shapes::broken_rule(hull);
         let equal = ours == theirs && known.is_none_or(|answer| answer == theirs);
         self.tally.compare(equal, || {
             let known = known.map_or(String::new(), |answer| format!(", known {answer}"));
@@ -54,6 +94,7 @@ impl Sort {
             format!("ours {ours}, the second {theirs}{known}: {size:?} {links} {numbers}")
         });
         self.answers[usize::from(theirs)] += 1;
+        self.units.add(size, theirs);
     }
 
     /// The answer of a call; one that never keeps to the limit is counted.
@@ -93,13 +134,15 @@ impl Total {
         self.all.tally.compared += compared;
         self.all.tally.different += different;
         self.all.slow += sort.slow;
+        self.all.units.add_all(&sort.units);
         for (all, one) in self.all.answers.iter_mut().zip(sort.answers) {
             *all += one;
         }
     }
 
-    /// The last line; whether the run is good: so many hulls were compared, and so many had more than one shell or a hole.
-    pub fn report(&self, least: u64, least_shells: u64) -> bool {
+    /// The last lines; whether the run is good: so many hulls were compared, so many had more than one shell or a hole, and so many
+    /// were met in each unit and in none.
+    pub fn report(&self, least: u64, least_shells: u64, least_units: u64) -> bool {
         let Tally {
             compared,
             different,
@@ -107,6 +150,7 @@ impl Total {
         let answers = self.all.answers;
         let list: String = answers.iter().map(|count| format!(" {count}")).collect();
         println!("hulls: {compared} compared, {different} different; answers 0..9:{list}");
+        let units = self.all.units.report(least_units);
         let faults = [
             (different > 0, "an answer differs".to_string()),
             (
@@ -121,6 +165,10 @@ impl Total {
             (
                 answers[9] < least_shells,
                 format!("answer 9 was met fewer than {least_shells} times"),
+            ),
+            (
+                !units,
+                format!("a unit, or none, was met fewer than {least_units} times"),
             ),
         ];
         for (_, fault) in faults.iter().filter(|(met, _)| *met) {

@@ -1,45 +1,61 @@
-//! The rule of a transform in both validators: ends of each limit, special values, anything.
+//! The rule of a transform in both validators, in each unit: ends of each limit, special values, anything.
 
 use super::floats::{ends_of_sums, with_sum};
+use cases::shapes::breaks::UNKNOWN_UNITS;
+use cases::sorts::about;
 use cases::{Numbers, Tally, SPECIAL};
-use probes::{Quat, Transform, Vec3};
+use probes::{Quat, Transform, Unit, Vec3};
 
 /// Ten comparisons for each of `count`, beside every special value at every place.
 pub fn compare(n: &mut Numbers, count: usize) -> Tally {
     let mut tally = Tally::default();
-    for _ in 0..count {
-        let position = [0.0; 3].map(|_: f32| n.fraction() * 4096.0);
+    let t = &mut tally;
+    for i in 0..count {
+        let unit = Unit::ALL[i % 4];
+        let number = unit.per_metre();
+        let position = [0.0; 3].map(|_: f32| n.fraction() * unit.farthest());
         for (sum, accepted) in ends_of_sums() {
-            hold(&mut tally, position, with_sum(sum, n), Some(accepted));
+            hold(t, number, position, with_sum(sum, n), Some(accepted));
         }
-        let limit = [4096.0f32, -4096.0][n.below(2)];
-        let beyond = limit * (1.0 + f32::EPSILON);
-        for (x, accepted) in [(limit, true), (beyond, false)] {
+        let limit = unit.farthest();
+        for (x, accepted) in [(limit, true), (limit.next_up(), false)] {
             let mut position = position;
-            position[n.below(3)] = x;
-            hold(&mut tally, position, with_sum(1.0, n), Some(accepted));
+            position[n.below(3)] = [x, -x][n.below(2)];
+            hold(t, number, position, with_sum(1.0, n), Some(accepted));
         }
         let position = [0.0; 3].map(|_: f32| n.float());
-        hold(&mut tally, position, with_sum(1.0, n), None);
-        hold(&mut tally, position, [0.0; 4].map(|_: f32| n.float()), None);
+        hold(t, number, position, with_sum(1.0, n), None);
+        hold(t, number, position, [0.0; 4].map(|_: f32| n.float()), None);
     }
-    let ends = [4096f32, 0.99, 1.01].map(|x| [x.next_down(), x, x.next_up()]);
-    let specials = SPECIAL.into_iter().chain(ends.concat());
-    for x in specials.flat_map(|x| [x, -x]) {
-        for place in 0..7 {
-            let mut seven = [0.0, 0.0, 0.0, 0.0, 0.0, 0.0, 1.0];
-            seven[place] = x;
-            let [px, py, pz, qx, qy, qz, qw] = seven;
-            hold(&mut tally, [px, py, pz], [qx, qy, qz, qw], None);
+    let limits = Unit::ALL.map(Unit::farthest).into_iter();
+    let ends = limits.chain([0.99, 1.01]).flat_map(about);
+    let specials: Vec<f32> = SPECIAL.into_iter().chain(ends).collect();
+    let units = Unit::ALL.map(Unit::per_metre).into_iter();
+    for number in units.chain(UNKNOWN_UNITS) {
+        for x in specials.iter().flat_map(|&x| [x, -x]) {
+            for place in 0..7 {
+                let mut seven = [0.0, 0.0, 0.0, 0.0, 0.0, 0.0, 1.0];
+                seven[place] = x;
+                let [px, py, pz, qx, qy, qz, qw] = seven;
+                hold(t, number, [px, py, pz], [qx, qy, qz, qw], None);
+            }
         }
     }
     tally
 }
 
-fn hold(tally: &mut Tally, position: [f32; 3], quaternion: [f32; 4], known: Option<bool>) {
-    let theirs = validator::transform_accepted(position, quaternion);
+/// By the unit of this number; one that is none acts as 1.
+fn hold(
+    tally: &mut Tally,
+    number: usize,
+    position: [f32; 3],
+    quaternion: [f32; 4],
+    known: Option<bool>,
+) {
+    let unit = Unit::try_from(number).unwrap_or_default();
+    let theirs = validator::transform_accepted(unit.per_metre(), position, quaternion);
     let ([px, py, pz], [x, y, z, s]) = (position, quaternion);
-    let ours = probes::transform_accepted(Transform {
+    let transform = Transform {
         p: Vec3 {
             x: px,
             y: py,
@@ -49,9 +65,12 @@ fn hold(tally: &mut Tally, position: [f32; 3], quaternion: [f32; 4], known: Opti
             v: Vec3 { x, y, z },
             s,
         },
-    });
+    };
+    let ours = probes::transform_accepted(number, transform);
     let equal = ours == theirs && known.is_none_or(|accepted| accepted == theirs);
     tally.compare(equal, || {
-        format!("{position:?} {quaternion:?}: ours {ours}, the second {theirs}, known {known:?}")
+        format!(
+            "{position:?} {quaternion:?} in unit {number}: ours {ours}, the second {theirs}, known {known:?}"
+        )
     });
 }

@@ -5,6 +5,7 @@ use cases::calls::{Answer, Call, Work};
 use cases::{met, one_in};
 use full::Full;
 use oracle::transcribed::End;
+use records::Unit;
 
 mod cached;
 mod full;
@@ -15,9 +16,23 @@ pub struct Met {
     cached: [Cached; 3],
     edges: Edges,
     full: Full,
-    refused: [u64; 7],
+    /// By the number of the refusal.
+    refused: [u64; 18],
     refused_by_cached: u64,
     kept_nan: u64,
+    units: [OfUnit; 4],
+}
+
+/// Calls in one unit that did some work.
+#[derive(Default)]
+struct OfUnit {
+    touching: u64,
+    without_points: u64,
+    hits: u64,
+    /// A cached axis, or the better face of a search, just at the speculative distance.
+    at_speculative: u64,
+    /// A cached separation that differs by just the slop, or an edge pair above a face by it.
+    at_slop: u64,
 }
 
 impl Met {
@@ -28,7 +43,7 @@ impl Met {
         }
         let (cache, status) = (call.cache, wanted.outcome.status);
         self.refused[usize::from(status)] += 1;
-        if (1..=4).contains(&status) {
+        if ![0, 5, 6].contains(&status) {
             return;
         }
         let nan = f32::from_bits(cache.separation).is_nan();
@@ -41,8 +56,18 @@ impl Met {
     fn add_searched(&mut self, call: &Call, wanted: &Answer) {
         let work = Work::of_call(call);
         let hit = wanted.outcome.status == 0 && wanted.cache.hit == 1;
+        let place = Unit::ALL.iter().position(|&unit| unit == work.unit);
+        let of_unit = &mut self.units[place.expect("one of the four")];
+        of_unit.hits += u64::from(hit);
+        match wanted.outcome.contact.count {
+            0 => of_unit.without_points += 1,
+            _ => of_unit.touching += 1,
+        }
         if let Some(again) = work.again(call.cache) {
-            self.cached[usize::from(call.cache.kind) - 2].add(call.cache, &again, hit);
+            let cached = &mut self.cached[usize::from(call.cache.kind) - 2];
+            let [at_speculative, at_slop] = cached.add(call.cache, &again, hit, work.unit);
+            of_unit.at_speculative += u64::from(at_speculative);
+            of_unit.at_slop += u64::from(at_slop);
             self.edges.add(&again);
             if again.end == End::Full {
                 self.refused_by_cached += 1;
@@ -50,7 +75,9 @@ impl Met {
             }
         }
         if !hit {
-            self.full.add(&work, wanted);
+            let [at_speculative, at_slop] = self.full.add(&work, wanted);
+            of_unit.at_speculative += u64::from(at_speculative);
+            of_unit.at_slop += u64::from(at_slop);
         }
     }
 
@@ -61,12 +88,25 @@ impl Met {
             good &= cached.report(name, count);
         }
         good &= self.edges.report(count) & self.full.report(count);
-        let [.., in_cache, padding, full] = self.refused;
+        let of = |refusal: usize| self.refused[refusal];
         let (often, few) = (one_in(2, count), one_in(50, count));
+        for (unit, of) in Unit::ALL.into_iter().zip(&self.units) {
+            good &= met(&[
+                (&format!("in {unit}: touching"), of.touching, often),
+                ("without points", of.without_points, often),
+                ("hits", of.hits, often),
+                (
+                    "exactly at the speculative distance",
+                    of.at_speculative,
+                    few,
+                ),
+                ("exactly at the slop", of.at_slop, few),
+            ]);
+        }
         good & met(&[
-            ("refusal 4", in_cache, often),
-            ("refusal 5", padding, few),
-            ("refusal 6", full, few),
+            ("refusal 4", of(4), often),
+            ("refusal 5", of(5), few),
+            ("refusal 6", of(6), few),
             ("by a cached face", self.refused_by_cached, few),
             ("a NaN kept in the cache", self.kept_nan, often),
         ])

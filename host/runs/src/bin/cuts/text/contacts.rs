@@ -5,6 +5,7 @@ use crate::hold::{contact_is, polygon_is};
 use crate::picks;
 use cases::pairs::{self, Pair};
 use cases::{convert, inputs, met, one_in, same, Numbers, Tally};
+use oracle::core::with_length_units;
 use oracle::hull::HullData;
 use oracle::math_functions::{mul_sv, Quat, Transform};
 use oracle::open::{collide_hulls_placed, search, LocalManifold, SatCache, SeparatingFeature};
@@ -36,28 +37,13 @@ pub fn run(n: &mut Numbers, count: usize) -> bool {
     let (mut cuts, mut calls) = (Tally::default(), Tally::default());
     let mut m = Met::default();
     for _ in 0..count / 2 {
-        let pair = pairs::any(n);
+        let unit = n.unit();
+        let pair = pairs::any(n).in_unit(unit);
         let (a, b) = (convert::hull(&pair.a), convert::hull(&pair.b));
         let both = Both { pair, a, b };
-        for i in 0..3 {
-            let (a, b) = (both.pair.a.size, both.pair.b.size);
-            let (face, vertex) = (n.below(a.faces), n.below(b.vertices));
-            let transform = match i {
-                0 => convert::transform(inputs::transform(n)),
-                1 => overflowing(both.pair.transform, n),
-                _ => both.pair.transform,
-            };
-            candidates(&mut cuts, &mut m, &both, transform, face, vertex);
-        }
-        let transform = both.pair.transform;
-        let axis = search(&both.a, &both.b, transform, false).face_a;
-        let (face, vertex) = (axis.index_a as usize, axis.index_b as usize);
-        if vertex < both.pair.b.size.vertices {
-            candidates(&mut cuts, &mut m, &both, transform, face, vertex);
-            whole(&mut calls, &mut m, &both, face, vertex);
-        } else {
-            m.left_out += 1;
-        }
+        with_length_units(unit.scale(), || {
+            one_pair(&both, [&mut cuts, &mut calls], &mut m, n);
+        });
     }
     let few = one_in(2000, count);
     cuts.report("candidates of a face contact")
@@ -78,6 +64,29 @@ pub fn run(n: &mut Numbers, count: usize) -> bool {
             ("a 65th corner put out", m.full, few),
             ("left out, since a padding lane won", m.left_out, 0),
         ])
+}
+
+/// The text works in the pair's unit.
+fn one_pair(both: &Both, [cuts, calls]: [&mut Tally; 2], m: &mut Met, n: &mut Numbers) {
+    for i in 0..3 {
+        let (a, b) = (both.pair.a.size, both.pair.b.size);
+        let (face, vertex) = (n.below(a.faces), n.below(b.vertices));
+        let transform = match i {
+            0 => convert::transform(inputs::transform(n)),
+            1 => overflowing(both.pair.transform, n),
+            _ => both.pair.transform,
+        };
+        candidates(cuts, m, both, transform, face, vertex);
+    }
+    let transform = both.pair.transform;
+    let axis = search(&both.a, &both.b, transform, false).face_a;
+    let (face, vertex) = (axis.index_a as usize, axis.index_b as usize);
+    if vertex < both.pair.b.size.vertices {
+        candidates(cuts, m, both, transform, face, vertex);
+        whole(calls, m, both, face, vertex);
+    } else {
+        m.left_out += 1;
+    }
 }
 
 /// A quaternion so long that some coordinates overflow and others do not. A cut leaves one or two corners only where
@@ -111,7 +120,8 @@ fn candidates(
         cuts.cut(&both.a, &both.b, transform, i, j);
         cuts.left()
     }) else {
-        let refused = !probes::transform_accepted(convert::our_transform(transform));
+        let unit = both.pair.unit().per_metre();
+        let refused = !probes::transform_accepted(unit, convert::our_transform(transform));
         t.compare(refused, || {
             format!("no incident face at {vertex} for {face} by {transform:?}")
         });
@@ -161,12 +171,13 @@ fn whole(t: &mut Tally, m: &mut Met, both: &Both, face: usize, vertex: usize) {
     let cut = ours(both, transform, face, vertex);
     let normal = convert::ours(both.a.planes[face].normal);
     let least = probes::least_separation(&cut.polygon);
-    let touching = probes::touching(cut.polygon.count, least);
+    let unit = both.pair.unit();
+    let touching = probes::touching(unit.per_metre(), cut.polygon.count, least);
     let equal = match theirs {
         None => cut.full,
         Some((manifold, cache)) if touching => {
             let images = probes::images(&cut.polygon, normal);
-            let contact = picks::contact(&images, normal);
+            let contact = picks::contact(unit, &images, normal);
             let made = &manifold.points[..manifold.point_count as usize];
             let made: Vec<Point> = made.iter().map(convert::our_contact_point).collect();
             let next = (SeparatingFeature::FaceAxisA as u8, face as u8, vertex as u8);

@@ -4,8 +4,9 @@ use crate::hold::contact_is;
 use crate::lists;
 use crate::picks::contact;
 use cases::{convert, met, one_in, Numbers, Tally};
+use oracle::core::with_length_units;
 use oracle::open;
-use probes::{ClipVertex, Point};
+use probes::{ClipVertex, Point, Unit};
 use runs::corners;
 
 /// Reductions of more than four candidates with twins among them, by what came of two twins.
@@ -30,20 +31,25 @@ impl Twins {
 pub fn run(n: &mut Numbers, count: usize) -> bool {
     let mut t = Tally::default();
     let mut made = [0; 5];
+    let mut of_units = [[0; 5]; 4];
     let mut out_of_order = 0;
     let mut twins = Twins::default();
-    for _ in 0..4 * count {
-        let (normal, list) = lists::any(n);
+    for turn in 0..4 * count {
+        let unit = Unit::ALL[turn % 4];
+        let (normal, list) = lists::any(unit, n);
         let points = corners::points(&list);
         let size = list.len() as i32;
-        let theirs = open::reduce_manifold_points(convert::vector(normal), &points, size);
+        let theirs = with_length_units(unit.scale(), || {
+            open::reduce_manifold_points(convert::vector(normal), &points, size)
+        });
         let theirs: Vec<Point> = theirs.iter().map(convert::our_contact_point).collect();
-        let ours = contact(&lists::lent(&list, n), normal);
+        let ours = contact(unit, &lists::lent(&list, n), normal);
         t.compare(contact_is(&ours, normal, &theirs), || {
             format!("points of {list:?} with normal {normal:?}: {ours:?}, {theirs:?}")
         });
         if list.len() > 4 {
             made[theirs.len()] += 1;
+            of_units[turn % 4][theirs.len()] += 1;
             let in_order = theirs
                 .iter()
                 .map(|point| point.place)
@@ -54,7 +60,19 @@ pub fn run(n: &mut Numbers, count: usize) -> bool {
     }
     let [none, one, two, three, four] = made;
     let (least, few) = (one_in(100, count), one_in(1000, count));
-    t.report("picks and places")
+    let of_units = Unit::ALL.into_iter().zip(of_units);
+    let in_units = of_units.fold(true, |good, (unit, made)| {
+        let [none, one, two, three, four] = made;
+        good & met(&[
+            (&format!("in {unit}: none"), none, few),
+            ("one", one, few),
+            ("two", two, few),
+            ("three", three, few),
+            ("four", four, few),
+        ])
+    });
+    in_units
+        & t.report("picks and places")
         & met(&[
             ("of more than four candidates none", none, least),
             ("one", one, least),

@@ -1,8 +1,8 @@
 //! The cached axis tried again.
 
-use cases::{met, one_in, SLOP, SPECULATIVE};
+use cases::{met, one_in};
 use oracle::transcribed::{Again, End};
-use records::SatCache;
+use records::{SatCache, Unit};
 
 /// A cached axis of one type.
 #[derive(Default)]
@@ -16,23 +16,27 @@ pub struct Cached {
 }
 
 impl Cached {
-    /// Panics where the transcription and the text differ in whether it is a hit.
-    pub fn add(&mut self, cache: SatCache, again: &Again, hit: bool) {
-        let mut near = false;
+    /// Whether it lies exactly at the speculative distance, and whether it differs by exactly the slop. Panics where the
+    /// transcription and the text differ in whether it is a hit.
+    pub fn add(&mut self, cache: SatCache, again: &Again, hit: bool, unit: Unit) -> [bool; 2] {
+        let (mut near, mut at_slop) = (false, false);
         match again.end {
             End::Signs(_) | End::Parallel | End::Full => {}
             End::Apart => self.apart += 1,
             End::Missed => self.no_contact += 1,
             End::Touching(separation) => {
                 let difference = (f32::from_bits(cache.separation) - separation).abs();
-                near = difference < SLOP;
+                near = difference < unit.slop();
+                at_slop = difference == unit.slop();
                 self.hit += u64::from(near);
                 self.differs += u64::from(!near);
-                self.at_slop += u64::from(difference == SLOP);
             }
         }
-        self.at_speculative += u64::from(again.separation == Some(SPECULATIVE));
+        let at_speculative = again.separation == Some(unit.speculative_distance());
+        self.at_slop += u64::from(at_slop);
+        self.at_speculative += u64::from(at_speculative);
         assert_eq!(hit, near || again.end == End::Apart, "{cache:?}: {again:?}");
+        [at_speculative, at_slop]
     }
 
     pub fn report(&self, name: &str, count: usize) -> bool {

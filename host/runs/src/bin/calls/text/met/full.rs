@@ -1,7 +1,7 @@
 //! The full search.
 
 use cases::calls::{Answer, Work};
-use cases::{met, one_in, SLOP, SPECULATIVE};
+use cases::{met, one_in};
 use oracle::open::{AxisQuery, SeparatingFeature};
 
 #[derive(Default)]
@@ -26,8 +26,11 @@ pub struct Full {
 }
 
 impl Full {
-    pub fn add(&mut self, work: &Work, wanted: &Answer) {
+    /// Whether the better face lies exactly at the speculative distance, and whether a pair of edges is above it by exactly the
+    /// slop.
+    pub fn add(&mut self, work: &Work, wanted: &Answer) -> [bool; 2] {
         let query = work.search();
+        let before = [self.at_speculative, self.at_slop];
         match (wanted.outcome.status, query.separated_feature) {
             (5, _) => self.padding += 1,
             (6, _) => self.cut_full += 1,
@@ -36,14 +39,17 @@ impl Full {
             (_, SeparatingFeature::EdgePairAxis) => self.apart_edges += 1,
             _ => self.add_found(work, &query, wanted),
         }
+        let [at_speculative, at_slop] = before;
+        [self.at_speculative > at_speculative, self.at_slop > at_slop]
     }
 
     fn add_found(&mut self, work: &Work, query: &AxisQuery, wanted: &Answer) {
         let (a, b) = (query.face_a.separation, query.face_b.separation);
+        let (slop, speculative) = (work.unit.slop(), work.unit.speculative_distance());
         self.a_wins += u64::from(a > b);
         self.b_wins += u64::from(a < b);
         self.tie += u64::from(a == b);
-        self.at_speculative += u64::from(a.max(b) == SPECULATIVE);
+        self.at_speculative += u64::from(a.max(b) == speculative);
 
         let pair = query.edge.index_a >= 0;
         let cache = wanted.cache;
@@ -56,7 +62,7 @@ impl Full {
                 self.replaced += u64::from(!alone);
             }
             _ if pair => {
-                let least = f32::from_bits(cache.separation) + SLOP;
+                let least = f32::from_bits(cache.separation) + slop;
                 let tried = query.edge.separation > least;
                 self.in_vain += u64::from(tried);
                 self.not_tried += u64::from(!tried);

@@ -1,0 +1,15 @@
+-- `coordinate_limit`: the definition's own product.
+use borrow.Author.Needs.{needs}
+use Rattle.units.specs.Limits.{coordinateLimit}
+use Rattle.units.proofs.coordinate_limit.Statement.{statement}
+use Rattle.units.proofs.coordinate_limit.Tie as tie
+
+get-length-units-per-meter-requires : tie.Need-get-length-units-per-meter-requires
+get-length-units-per-meter-requires c κs = search needs
+
+returns : tie.Need-returns
+unfolding coordinateLimit
+returns c = simp (c .get-length-units-per-meter .ensures)
+
+pub coordinate-limit-spec : {M : Type 1} → statement M
+coordinate-limit-spec = tie.close (tie.spec get-length-units-per-meter-requires returns)
