@@ -1,5 +1,5 @@
 #!/usr/bin/env bash
-# What hosts link, tried as a host would: the header as C and as C++, held to the library; the two sample programs outside
+# What hosts link, tried as a host would: the header as C and as C++, held to the library; the sample programs outside
 # the repository, built by README.md's own lines; a library with another ABI number; the wrapper where there is no library,
 # and where it is for another processor. On any processor but x86-64 all of it is compiled, and nothing is linked.
 #
@@ -46,15 +46,18 @@ if [ "$linked" ]; then
     symbols() { nm "$prefix/lib/libcontactlib.a" | awk -v kinds="$1" 'NF > 1 && $(NF - 1) ~ "^[" kinds "]$" { print $NF }' | sort -u | xargs; }
     declared=$(grep -vE '^(static|#| |/\*)' host/c/contact.h | grep -oE '\bcontact_[a-z_]+\(' | tr -d '(' | sort -u | xargs)
     [ "$(symbols T)" = "$declared" ] || fail "the library exports $(symbols T), and the header declares $declared"
-    [ "$(symbols U)" = "memcpy memset" ] || fail "the library needs $(symbols U)"
+    for need in $(symbols U); do case $need in memcpy | memset) ;; *) fail "the library needs $need" ;; esac; done
     [ -z "$(symbols BbDdCGgSs)" ] || fail "the library has memory of its own: $(symbols BbDdCGgSs)"
-    echo "the library exports $declared, needs memcpy and memset alone and has no memory of its own"
+    echo "the library exports $declared, needs no more than memcpy and memset ($(symbols U)) and has no memory of its own"
 fi
 
 # ---- its records against the library, on the stored frames and on the largest hulls; what calls need of the stack
-compile_both() { # MORE WORDS..: the test of the header, as C and as C++
-    cc -std=c11 -O2 $strict -pedantic host/c/tests/frames.c -o "$outside/frames-c" "$@" || fail "the header's test is no C"
-    c++ -std=c++17 -O2 $strict -x c++ host/c/tests/frames.c -x none -o "$outside/frames-cpp" "$@" || fail "the header's test is no C++"
+compile_both() { # MORE WORDS..: the tests of the header, as C and as C++
+    local test
+    for test in frames steps; do
+        cc -std=c11 -O2 $strict -pedantic host/c/tests/$test.c -o "$outside/$test-c" "$@" || fail "the header's test $test is no C"
+        c++ -std=c++17 -O2 $strict -x c++ host/c/tests/$test.c -x none -o "$outside/$test-cpp" "$@" || fail "the header's test $test is no C++"
+    done
 }
 if [ "$linked" ]; then
     # bound at once: the loader's own work in a first call would be seen on the painted stack
@@ -68,43 +71,58 @@ if [ "$linked" ]; then
     esac
     for language in c cpp; do
         "$outside/frames-$language" "${files[@]}" || fail "the header's records are not the library's, or a call needs more stack than is stated ($language)"
+        "$outside/steps-$language" "${files[@]}" || fail "a step answers otherwise than its calls, or needs more stack than is stated ($language)"
     done
 else
     compile_both -c
 fi
 
-# ---- a program in C and one in Rust, outside the repository, by what README.md says
-mkdir -p "$outside/in-c" "$outside/in-rust/src"
-cp host/c/settle.c "$outside/in-c/"
-cp host/contact/examples/settle.rs "$outside/in-rust/src/main.rs"
-readme_lines 'A Rust host' | sed -n '/^\[package\]/,/^contact =/p' >"$outside/in-rust/Cargo.toml"
+# ---- two programs, each in C and in Rust, outside the repository, by what README.md says of the first
+mkdir -p "$outside/in-c"
+cp host/c/*.c host/c/logs.h "$outside/in-c/"
 build_c=$(readme_lines 'A C host' | grep -E '^(export|cc) ')
 build_rust=$(readme_lines 'A Rust host' | grep 'cargo ')
-[ "$(wc -l <<<"$build_c")" = 2 ] && [ -s "$outside/in-rust/Cargo.toml" ] && [ "$build_rust" ] || fail "README.md does not say how hosts are built"
-export CARGO_NET_OFFLINE=true
+cargo_toml=$(readme_lines 'A Rust host' | sed -n '/^\[package\]/,/^contact =/p')
+[ "$(wc -l <<<"$build_c")" = 2 ] && [ "$cargo_toml" ] && [ "$build_rust" ] || fail "README.md does not say how hosts are built"
+export CARGO_NET_OFFLINE=true CARGO_TARGET_DIR=$outside/target
+for sample in settle stack; do
+    mkdir -p "$outside/$sample-in-rust/src"
+    cp host/contact/examples/$sample.rs "$outside/$sample-in-rust/src/main.rs"
+    echo "${cargo_toml//settle/$sample}" >"$outside/$sample-in-rust/Cargo.toml"
+done
 if [ -z "$linked" ]; then
-    cc -std=c99 -pedantic $strict -Ihost/c -c "$outside/in-c/settle.c" -o "$outside/settle.o" || fail "the sample in C does not compile"
-    (cd "$outside/in-rust" && cargo check --quiet) || fail "the sample in Rust does not compile"
-    echo "both sample programs compile; none was linked on $(uname -m)"
+    for sample in settle stack; do
+        cc -std=c99 -pedantic $strict -Ihost/c -c "$outside/in-c/$sample.c" -o "$outside/$sample.o" || fail "the sample $sample.c does not compile"
+        (cd "$outside/$sample-in-rust" && cargo check --quiet) || fail "the sample $sample.rs does not compile"
+    done
+    echo "the sample programs compile; none was linked on $(uname -m)"
     exit 0
 fi
-(cd "$outside/in-c" && eval "$build_c") >"$outside/c.said" 2>&1 || { cat "$outside/c.said"; fail "the sample in C, by README.md's lines"; }
-(cd "$outside/in-rust" && eval "$build_rust") >"$outside/rust.said" 2>"$outside/rust.words" || {
-    cat "$outside/rust.words" "$outside/rust.said"
-    fail "the sample in Rust, by README.md's lines"
+# sample NAME TEXT HEADING: both programs tell the story that TEXT tells over the Rust text, and README.md below HEADING, times aside.
+sample() {
+    (cd "$outside/in-c" && eval "${build_c//settle/$1}") >"$outside/c.said" 2>&1 || { cat "$outside/c.said"; fail "$1.c, by README.md's lines"; }
+    (cd "$outside/$1-in-rust" && eval "$build_rust") >"$outside/rust.said" 2>"$outside/rust.words" || {
+        cat "$outside/rust.words" "$outside/rust.said"
+        fail "$1.rs, by README.md's lines"
+    }
+    readme_lines "$3" >"$outside/readme.said"
+    "host/target/release/$2" >"$outside/text.said" || fail "the story of $1 by the Rust text"
+    grep -q '^left out' "$outside/text.said" && { cat "$outside/text.said"; cp "$outside/readme.said" "$outside/text.said"; }
+    local said
+    for said in c rust readme; do
+        cmp <(grep -v '^time: ' "$outside/text.said") <(grep -v '^time: ' "$outside/$said.said") ||
+            fail "the story of $1 ($said) is not the one that the Rust text tells"
+    done
 }
-readme_lines 'What both print' >"$outside/readme.said"
-host/target/release/settle >"$outside/text.said" || fail "the sample's story by the Rust text"
-grep -q '^left out' "$outside/text.said" && { cat "$outside/text.said"; cp "$outside/readme.said" "$outside/text.said"; }
-for said in c rust readme; do
-    cmp "$outside/text.said" "$outside/$said.said" || fail "the story of the sample ($said) is not the one that the Rust text tells"
-done
-echo "two logs settled by a program in C and by one in Rust, both outside the repository and built by README.md's lines; both tell"
-echo "the story that the Rust text tells and README.md prints"
+sample settle settle 'What both print'
+sample stack stacked 'What the stack prints'
+echo "two logs, and a stack of twelve, settled by programs in C and in Rust, outside the repository and built by README.md's lines; each tells"
+echo "the story that the Rust text tells and README.md prints; the stack $(sed -n 's/^time: //p' "$outside/c.said") in C,"\
+    "$(sed -n 's/^time: //p' "$outside/rust.said") in Rust"
 
 # ---- a library with another number
 mkdir "$outside/other"
-echo 'unsigned contact_abi(void) { return 4000000000u; } int contact_collide, contact_answer, contact_first_broken_rule;' >"$outside/other.c"
+echo 'unsigned contact_abi(void) { return 4000000000u; } int contact_collide, contact_step, contact_answer, contact_first_broken_rule;' >"$outside/other.c"
 cc -c "$outside/other.c" -o "$outside/other.o" && ar rcs "$outside/other/libcontactlib.a" "$outside/other.o" || fail "no other library"
 refuses() { # WORDS..: the program says that the library is another, and ends with a status that is not 0
     "$@" >"$outside/said" 2>&1 && { cat "$outside/said"; fail "$1 goes on with a library of another number"; }
@@ -113,13 +131,13 @@ refuses() { # WORDS..: the program says that the library is another, and ends wi
 }
 cc "$outside/in-c/settle.c" -Ihost/c -o "$outside/settle-other" "$outside/other/libcontactlib.a" -lm || fail "the sample with another library"
 refuses "$outside/settle-other"
-CONTACT_LIBRARY_DIR=$outside/other cargo build --release --quiet --manifest-path "$outside/in-rust/Cargo.toml" || fail "the sample with another library"
-refuses "$outside/in-rust/target/release/settle"
+CONTACT_LIBRARY_DIR=$outside/other cargo build --release --quiet --manifest-path "$outside/settle-in-rust/Cargo.toml" || fail "the sample with another library"
+refuses "$outside/target/release/settle"
 echo "with a library of another ABI number both samples say so and stop"
 
 # ---- the wrapper without a library, and for another processor
 without() { # CHECK OR BUILD
-    CONTACT_LIBRARY_DIR=$outside/nowhere cargo "$1" --release --manifest-path "$outside/in-rust/Cargo.toml" 2>"$outside/said"
+    CONTACT_LIBRARY_DIR=$outside/nowhere cargo "$1" --release --manifest-path "$outside/settle-in-rust/Cargo.toml" 2>"$outside/said"
 }
 sentence="there is no libcontactlib.a in $outside/nowhere, which CONTACT_LIBRARY_DIR names: run \`./install PREFIX\`"
 without check || { cat "$outside/said"; fail "the wrapper cannot be checked without a library"; }

@@ -9,10 +9,13 @@
      call have the same. The transform's position and all that comes out is in that unit and in A's frame; separations are
      below zero where the hulls overlap. Limits and tolerances go by the unit: contact_farthest and those beside it.
    - Memory: a pointer with a length points to that many elements, aligned as C aligns them, or is NULL where the length is
-     0. `cache` is never NULL. Nothing is kept after a call, nothing is allocated. What is written (`cache`, `answer`)
-     overlaps nothing that is lent beside it. Two lists that are only read may be the same.
+     0. `cache` is never NULL. Nothing is kept after a call, nothing is allocated. What is written (`cache`, `answer`; `judged`,
+     `caches`, `floats` and `bytes` of a step) overlaps nothing that is lent beside it. Lists that are only read may be the same.
    - Threads: the functions have no state; any number of threads may call them, each with its own cache and answer.
-   - Stack: CONTACT_COLLIDE_STACK and CONTACT_ANSWER_STACK bytes at the most, beside what the caller needs itself.
+   - Stack: CONTACT_COLLIDE_STACK, CONTACT_STEP_STACK and CONTACT_ANSWER_STACK bytes at the most, beside what the caller needs
+     itself, however many hulls and pairs a step has.
+   - Many pairs: contact_step judges each hull once and answers a list of pairs; call by call each hull is judged in each of
+     its pairs. Number hulls by place, so that those which meet lie near each other in memory.
    - Floating point: the default environment of C: round to nearest, no flush to zero, no denormals as zero (MXCSR 1f80).
      With another rounding the answers are others.
    - Platform: x86-64 Linux (System V calls). Link libcontactlib.a; beside it only memcpy and memset are needed.
@@ -31,7 +34,7 @@ extern "C" {
 
 /* The number of these records and functions. It goes up with every change of a record, of a function's parameters, or of
    what a number in them means. */
-#define CONTACT_ABI 5
+#define CONTACT_ABI 6
 
 /* The most points of a contact, and the least capacity with which a call does any work. */
 #define CONTACT_MAX_POINTS 4
@@ -44,6 +47,7 @@ extern "C" {
 
 /* Bytes of stack that a call needs at the most, whatever the hulls are; contact_first_broken_rule needs less. */
 #define CONTACT_COLLIDE_STACK (24 * 1024)
+#define CONTACT_STEP_STACK (24 * 1024)
 #define CONTACT_ANSWER_STACK (32 * 1024)
 
 /* ---- what a call is handed */
@@ -165,8 +169,9 @@ enum contact_status {
     CONTACT_CACHE = 4,
     CONTACT_PADDING_WON = 5,
     CONTACT_CUT_FULL = 6,
-    CONTACT_OWNER = 8, /* of a frame of kind 11 alone; the number before it has ended and is given to nothing */
-    CONTACT_UNITS = 17 /* given after CONTACT_HULL_B and before CONTACT_TRANSFORM */
+    CONTACT_OWNER = 8,   /* of a frame of kind 11 alone; the number before it has ended and is given to nothing */
+    CONTACT_UNITS = 17,  /* given after CONTACT_HULL_B and before CONTACT_TRANSFORM */
+    CONTACT_NO_ROOM = 21 /* of a whole step alone: nothing was written */
 };
 
 /* The bytes between the fields are not set: compare fields, not memory. */
@@ -175,6 +180,72 @@ typedef struct {
     contact_manifold contact; /* empty where the call was refused */
     uint8_t retired;          /* 1: accepted, with a capacity of 4 or more, and the kind that was read is retired; else 0 */
 } contact_outcome;
+
+/* ---- a step: many pairs in one call
+
+   A step is lent lists of plain numbers, so that a host in any language can make them. What stands behind the last whole hull
+   or pair of a list is not looked at, and places behind those that are written keep what they held. */
+
+/* How many places of its list each of them takes. */
+#define CONTACT_HULL_WORDS 6       /* hulls: where its numbers begin in `numbers`, where its links begin in `links`, unit, V, H, F */
+#define CONTACT_PAIR_WORDS 2       /* pairs: the number of hull A and that of hull B, counted from 0 */
+#define CONTACT_TRANSFORM_FLOATS 7 /* transforms: B in A's frame, the fields of a contact_transform in their order */
+#define CONTACT_CACHE_WORDS 2      /* caches: the bytes of a contact_cache as they lie in memory */
+#define CONTACT_PAIR_FLOATS 19     /* floats: normal x, y, z, then four times position x, y, z and separation */
+#define CONTACT_PAIR_BYTES 24      /* bytes: enum contact_byte */
+
+/* Where each stands in the CONTACT_PAIR_BYTES of a pair. The one byte that is not named is 0. */
+enum contact_byte {
+    CONTACT_BYTE_STATUS = 0,  /* enum contact_status of this pair, never CONTACT_NO_ROOM */
+    CONTACT_BYTE_COUNT = 1,   /* how many points, 0 to 4 */
+    CONTACT_BYTE_RETIRED = 2, /* as contact_outcome has it */
+    CONTACT_BYTE_TAGS = 4,    /* four times owner1, index1, owner2, index2 */
+    CONTACT_BYTE_PLACES = 20  /* four places; CONTACT_UNUSED_PLACE at and above count */
+};
+
+typedef struct {
+    uint8_t status; /* CONTACT_ACCEPTED, or CONTACT_NO_ROOM where a list has no room for the hulls and the pairs */
+    size_t points;  /* the points of all pairs together; 0 with CONTACT_NO_ROOM */
+} contact_step_result;
+
+/* The words of a hull whose numbers and links begin at these places of the step's lists. */
+static inline void contact_put_hull(uint32_t *words, size_t numbers_at, size_t links_at, contact_size size) {
+    words[0] = (uint32_t)numbers_at;
+    words[1] = (uint32_t)links_at;
+    words[2] = (uint32_t)size.unit;
+    words[3] = (uint32_t)size.vertices;
+    words[4] = (uint32_t)size.half_edges;
+    words[5] = (uint32_t)size.faces;
+}
+
+/* What a step wrote of a pair, as contact_collide would have returned it. `floats` and `bytes` are the step's whole lists. */
+static inline contact_outcome contact_pair_outcome(const float *floats, const uint8_t *bytes, size_t pair) {
+    contact_outcome outcome;
+    int i;
+    floats += CONTACT_PAIR_FLOATS * pair;
+    bytes += CONTACT_PAIR_BYTES * pair;
+    outcome.status = bytes[CONTACT_BYTE_STATUS];
+    outcome.contact.count = bytes[CONTACT_BYTE_COUNT];
+    outcome.retired = bytes[CONTACT_BYTE_RETIRED];
+    outcome.contact.normal.x = floats[0];
+    outcome.contact.normal.y = floats[1];
+    outcome.contact.normal.z = floats[2];
+    for (i = 0; i < CONTACT_MAX_POINTS; i++) {
+        contact_point *point = &outcome.contact.points[i];
+        const float *numbers = floats + 3 + 4 * i;
+        const uint8_t *tag = bytes + CONTACT_BYTE_TAGS + 4 * i;
+        point->position.x = numbers[0];
+        point->position.y = numbers[1];
+        point->position.z = numbers[2];
+        point->separation = numbers[3];
+        point->pair.owner1 = tag[0];
+        point->pair.index1 = tag[1];
+        point->pair.owner2 = tag[2];
+        point->pair.index2 = tag[3];
+        point->place = bytes[CONTACT_BYTE_PLACES + i];
+    }
+    return outcome;
+}
 
 /* ---- the functions */
 
@@ -196,6 +267,23 @@ contact_outcome contact_collide(
 uint8_t contact_first_broken_rule(
     const float *numbers, size_t numbers_len, const uint8_t *links, size_t links_len, contact_size size);
 
+/* Many pairs of many hulls in one call. Of each pair the answer and the next cache are those of contact_collide with a capacity of
+   CONTACT_MAX_POINTS on its two hulls, transform and cache; a hull number that is none is CONTACT_HULL_A or CONTACT_HULL_B, and a
+   pair that is refused has an empty contact and keeps every bit of its cache.
+   numbers, links: the lists of all hulls, each hull's anywhere in them; two hulls may have the same, or overlap.
+   hulls, pairs, transforms: read; CONTACT_HULL_WORDS words a hull, CONTACT_PAIR_WORDS words and CONTACT_TRANSFORM_FLOATS floats a
+   pair. An array of contact_transform is such a list: (const float *)transforms.
+   judged: written, a byte a hull: the number of the first rule that it breaks, 0 if none; 1 too where its lists do not lie inside
+   numbers and links. What stood there is never believed.
+   caches: read and written, CONTACT_CACHE_WORDS words a pair. An array of contact_cache is such a list: (uint32_t *)caches.
+   floats, bytes: written, CONTACT_PAIR_FLOATS floats and CONTACT_PAIR_BYTES bytes a pair; contact_pair_outcome reads them.
+   Where judged, transforms, caches, floats or bytes is shorter than that, the status is CONTACT_NO_ROOM and nothing is written. */
+contact_step_result contact_step(
+    const float *numbers, size_t numbers_len, const uint8_t *links, size_t links_len,
+    const uint32_t *hulls, size_t hulls_len, const uint32_t *pairs, size_t pairs_len,
+    const float *transforms, size_t transforms_len, uint8_t *judged, size_t judged_len,
+    uint32_t *caches, size_t caches_len, float *floats, size_t floats_len, uint8_t *bytes, size_t bytes_len);
+
 /* The answer to one frame in bytes (docs/RULES.md, "Frames"), as the program gives it: how many bytes it has, which stand
    first in answer; what stands behind them is kept. Where answer_len is below CONTACT_LONGEST_ANSWER, 0, and nothing is
    written. */
@@ -214,6 +302,7 @@ static inline const char *contact_status_text(uint8_t status) {
     case CONTACT_PADDING_WON: return "a padding lane reaches farther than every vertex";
     case CONTACT_CUT_FULL: return "a cut would put out a 65th vertex";
     case CONTACT_OWNER: return "the pair to be flipped has an owner above 1";
+    case CONTACT_NO_ROOM: return "a list that is lent has too few places for the hulls and pairs";
     default: return NULL;
     }
 }
@@ -229,6 +318,7 @@ static inline const char *contact_status_remedy(uint8_t status) {
     case CONTACT_PADDING_WON: return "fill the padding with vertex 0";
     case CONTACT_CUT_FULL: return "give the two faces fewer sides";
     case CONTACT_OWNER: return "an owner is 0 for hull A or 1 for hull B";
+    case CONTACT_NO_ROOM: return "lend for each hull a place of judged, and for each pair 7 of transforms, 2 of caches, 19 of floats, 24 of bytes";
     default: return NULL;
     }
 }

@@ -1,9 +1,9 @@
 -- The two loops round a face: one lays out a polygon of its corners, the other cuts a polygon by its sides. Assumes nothing.
 use Prim.Native.Nat.{ℕ, suc, _+_, _-_, _≤_, _<_}
 use mathlib.Core.Path.{_≡_, refl, sym, ap, _∙_, subst}
-use mathlib.Core.Bool.{false, and-false}
+use mathlib.Core.Bool.{false, cond, and-false}
 use mathlib.Core.List.{List, [], _∷_, _++_, append-assoc, append-nil, map}
-use mathlib.Core.Logic.{_⊎_, inl, inr}
+use mathlib.Core.Logic.{inl}
 use native.Mathlib.Omega.{arith}
 use native.Mathlib.Decide.{decLe}
 use lib.ListN.{length, take, length-map}
@@ -23,12 +23,12 @@ use Rattle.hull_links.proofs.Orbits.{ring-some}
 use Rattle.hull_links.proofs.Along.{Along, along, rest, ring-rest, no-more, goes-along, rest-more, rest-shorter}
 use Rattle.hull.specs.Numbers.{planeAt}
 use Rattle.hull.specs.Accepted.{Accepted}
-use Rattle.clip_corners.specs.declared.Clipped.{Clipped}
+use Rattle.clip_corners.specs.declared.Kept.{Kept}
 use Rattle.clip_cut.specs.Cut.{cutOf}
-use Rattle.clip_corners.specs.Places.{Roomy, SideBySide, cornersIn, packedOf, Laid}
-use Rattle.clip_corners.specs.Results.{clippedOf}
+use Rattle.clip_corners.specs.Places.{Roomy, Half, cornersIn, Laid}
+use Rattle.clip_corners.specs.Standing.{Standing}
 use Rattle.clip_corners.proofs.Laying.{lays-none, lays-on, still-roomy}
-use Rattle.clip_corners.proofs.Reading.{all-counted, all-back, packed-is}
+use Rattle.clip_corners.proofs.Reading.{all-counted, all-back}
 use Rattle.clip.specs.Candidates.{cornerOf, builtOf, sidePlaneOf, cutOn, goesOn, cutRound}
 
 -- the half-edges behind e, on the way round the face whose ring begins at start
@@ -49,10 +49,19 @@ pub record Round (s : HullSize) (n : List Float) (l : List ℕ) (face start : �
     (p m e : ℕ) : Type 0 where
   pub here : Along (next s l) (s .«half_edges») start e
   pub room : Roomy places tags
-  pub half : (p ≡ 0) ⊎ (p ≡ 64)
+  pub half : Half p
   pub some : 0 < m
   pub most : m ≤ 64
   pub whole : cutRound s n l face (e ∷ leftOf s l start e) (cornersIn places tags p m) ≡ all
+
+-- and behind the cut on half-edge e, where k says what it left
+pub record Turned (s : HullSize) (n : List Float) (l : List ℕ) (face start : ℕ) (all : List ClipVertex) (places : List Float) (tags : List ℕ)
+    (k : Kept) (e : ℕ) : Type 0 where
+  pub here : Along (next s l) (s .«half_edges») start e
+  pub half : Half (k .from)
+  pub left : List ClipVertex
+  pub stand : Standing places tags left k
+  pub whole : cond (goesOn left) (cutRound s n l face (leftOf s l start e) left) left ≡ all
 
 -- the polygon that is to be cut is laid in the first half
 pub record Begun (places : List Float) (tags : List ℕ) (m : ℕ) (built : List ClipVertex) : Type 0 where
@@ -60,22 +69,6 @@ pub record Begun (places : List Float) (tags : List ℕ) (m : ℕ) (built : List
   pub some : 0 < m
   pub most : m ≤ 64
   pub are : cornersIn places tags 0 m ≡ built
-
--- ---- the two halves of the lists
-pub other-half : (p : ℕ) → (p ≡ 0) ⊎ (p ≡ 64) → (64 - p ≡ 0) ⊎ (64 - p ≡ 64)
-other-half p (inl h) = inr (omega arith)
-other-half p (inr h) = inl (omega arith)
-
-pub half-most : (p : ℕ) → (p ≡ 0) ⊎ (p ≡ 64) → p ≤ 64
-half-most p (inl h) = omega arith
-half-most p (inr h) = omega arith
-
-pub halves : (p : ℕ) → (p ≡ 0) ⊎ (p ≡ 64) → SideBySide p (64 - p)
-halves p h = record { low = (half-most p h, omega arith); apart = by h }
-  where
-    by : (p ≡ 0) ⊎ (p ≡ 64) → (p + 64 ≤ 64 - p) ⊎ (64 - p + 64 ≤ p)
-    by (inl h) = inl (omega arith)
-    by (inr h) = inr (omega arith)
 
 -- ---- the polygon of a face has a corner, and no more than 64
 first-some : (es : List ℕ) → 1 ≤ length es → 1 ≤ length (take 64 es)
@@ -109,9 +102,10 @@ module _ (s : HullSize) (n : List Float) (l : List ℕ) (t : Transform) (referen
   -- what is left of it, with the reference face by its name
   pub left-of-built : (s′ : HullSize) (n′ : List Float) (l′ es : List ℕ) (f m : ℕ) (places : List Float) (tags : List ℕ)
       → Begun places tags m (builtOf s n l t reference face) → reference ≡ planeAt s′ n′ f
-      → clippedOf (cutRound s′ n′ l′ f es (cornersIn places tags 0 m)) ≡ clippedOf (cutRound s′ n′ l′ f es (builtOf s n l t (planeAt s′ n′ f) face))
-  left-of-built s′ n′ l′ es f m places tags b p =
-      ap (λ (z : List ClipVertex). clippedOf (cutRound s′ n′ l′ f es z)) (b .are ∙ ap (λ (z : Plane). builtOf s n l t z face) p)
+      → (places′ : List Float) (tags′ : List ℕ) (k : Kept) → Standing places′ tags′ (cutRound s′ n′ l′ f es (cornersIn places tags 0 m)) k
+      → Standing places′ tags′ (cutRound s′ n′ l′ f es (builtOf s n l t (planeAt s′ n′ f) face)) k
+  left-of-built s′ n′ l′ es f m places tags b p places′ tags′ k x =
+      subst (λ (z : List ClipVertex). Standing places′ tags′ (cutRound s′ n′ l′ f es z) k) (b .are ∙ ap (λ (z : Plane). builtOf s n l t z face) p) x
 
 -- the corners are carried by the matrix of the transform
 pub built-is : (s : HullSize) (n : List Float) (l : List ℕ) (t : Transform) (reference : Plane) (face : ℕ) (matrix : Rows) (n₀ : List Float)
@@ -194,63 +188,60 @@ module _ (s : HullSize) (n : List Float) (l : List ℕ) (ok : Accepted s n l) (f
     whole = ap (λ (es : List ℕ). cutRound s n l face es (cornersIn places tags 0 m)) face-ring;
   }
 
-  module _ (all : List ClipVertex) (places : List Float) (tags : List ℕ) (p m e : ℕ) (r : Round s n l face start all places tags p m e)
-      (reference plane : Plane) (is : reference ≡ planeAt s n face)
-      (side : plane ≡ sidePlaneOf s n l (reference .normal) e) (places′ : List Float) (tags′ : List ℕ) (m′ : ℕ)
-      (x : Laid places tags (64 - p) 0 (cutOf plane e reference (cornersIn places tags p m)) places′ tags′ m′) where
-    abbrev this : List ClipVertex
-    this = cutOn s n l face e (cornersIn places tags p m)
+  module _ (all : List ClipVertex) where
+    pub round-cut : (places : List Float) (tags : List ℕ) (p m e : ℕ) → Round s n l face start all places tags p m e
+        → (reference plane : Plane) → reference ≡ planeAt s n face → plane ≡ sidePlaneOf s n l (reference .normal) e
+        → (places′ : List Float) (tags′ : List ℕ) (k : Kept)
+        → Standing places′ tags′ (cutOf plane e reference (cornersIn places tags p m)) k × Half (k .from)
+        → Turned s n l face start all places′ tags′ k e
+    unfolding cutRound cutOn
+    round-cut places tags p m e r reference plane is side places′ tags′ k x = record {
+      here = r .here;
+      half = x .1;
+      left = cutOn s n l face e (cornersIn places tags p m);
+      stand = rw (← is, ← side) (x .0);
+      whole = r .whole;
+    }
 
-    is-cut : Laid places tags (64 - p) 0 this places′ tags′ m′
-    unfolding cutOn
-    is-cut = rw (← is, ← side) x
+    module _ (places : List Float) (tags : List ℕ) (k : Kept) (e : ℕ) (c : Turned s n l face start all places tags k e) where
+      -- what the last cut leaves
+      leaves : c .left ≡ all → Standing places tags all k
+      leaves z = subst (λ (l : List ClipVertex). Standing places tags l k) z (c .stand)
 
-    pub cut-roomy : Roomy places′ tags′
-    cut-roomy = still-roomy places tags (64 - p) 0 this places′ tags′ m′ is-cut (r .room)
-
-    low : 64 - p ≤ 64
-    low = omega arith
-
-    count : m′ ≡ length this
-    count = all-counted places tags (64 - p) this places′ tags′ m′ (r .room) low is-cut
-
-    -- what is packed at the end
-    module _ (c : Clipped) (packs : c ≡ packedOf places′ tags′ (64 - p) m′) where
-      packs-cut : c ≡ clippedOf this
-      packs-cut = packs ∙ packed-is places tags (64 - p) this places′ tags′ m′ (r .room) low is-cut
-
-      stops : goesOn this ≡ false → c ≡ clippedOf all
-      unfolding cutRound
-      stops z = packs-cut ∙ ap clippedOf (rw z at (r .whole))
+      stops : goesOn (c .left) ≡ false → Standing places tags all k
+      stops z = leaves (rw z at (c .whole))
 
       -- a 65th corner, and fewer than three
-      pub round-full : 64 < m′ → c ≡ clippedOf all
+      pub round-full : 64 < k .count → Standing places tags all k
       unfolding goesOn
-      round-full h = stops (rw (lt-leb (length this) 64 (omega (arith, h, count))) (and-false (leb 3 (length this))))
+      round-full h =
+          stops (rw (lt-leb (length (c .left)) 64 (omega (arith, h, c .stand .counted))) (and-false (leb 3 (length (c .left)))))
 
-      pub round-few : m′ < 3 → c ≡ clippedOf all
+      pub round-few : k .count < 3 → Standing places tags all k
       unfolding goesOn
-      round-few h = stops (rw (lt-leb 3 (length this) (omega (arith, h, count))) refl)
+      round-few h = stops (rw (lt-leb 3 (length (c .left)) (omega (arith, h, c .stand .counted))) refl)
 
-    -- else the cuts go on
-    module _ (h : m′ ≤ 64) (k : 3 ≤ m′) (t : ℕ) (w : t ≡ next s l e) where
-      goes : cutRound s n l face (leftOf s l start e) this ≡ all
-      unfolding cutRound goesOn
-      goes = rw (le-leb 3 (length this) (omega (arith, k, count)), le-leb (length this) 64 (omega (arith, h, count))) at (r .whole)
+      -- else the cuts go on
+      module _ (h : k .count ≤ 64) (g : 3 ≤ k .count) (t : ℕ) (w : t ≡ next s l e) where
+        goes : cutRound s n l face (leftOf s l start e) (c .left) ≡ all
+        unfolding goesOn
+        goes =
+            let count = c .stand .counted in
+            rw (le-leb 3 (length (c .left)) (omega (arith, g, count)), le-leb (length (c .left)) 64 (omega (arith, h, count))) at (c .whole)
 
-      pub round-back : (c : Clipped) → c ≡ packedOf places′ tags′ (64 - p) m′ → t ≡ start → c ≡ clippedOf all
-      unfolding cutRound
-      round-back c packs z = packs-cut c packs ∙ ap clippedOf (ap (λ (es : List ℕ). cutRound s n l face es this) (sym (no-more _ _ _ e t w z)) ∙ goes)
+        pub round-back : t ≡ start → Standing places tags all k
+        unfolding cutRound
+        round-back z = leaves (ap (λ (es : List ℕ). cutRound s n l face es (c .left)) (sym (no-more _ _ _ e t w z)) ∙ goes)
 
-      pub round-goes : (t ≡ start → ⊥) → Round s n l face start all places′ tags′ (64 - p) m′ t
-      round-goes nay = record {
-        here = goes-along _ _ _ e t (r .here) w nay (ok .next-in);
-        room = cut-roomy;
-        half = other-half p (r .half);
-        some = omega (arith, k);
-        most = h;
-        whole = rw (all-back places tags (64 - p) this places′ tags′ m′ (r .room) low is-cut h, ← rest-more _ _ _ e t (r .here) w nay) goes;
-      }
+        pub round-goes : (t ≡ start → ⊥) → Round s n l face start all places tags (k .from) (k .count) t
+        round-goes nay = record {
+          here = goes-along _ _ _ e t (c .here) w nay (ok .next-in);
+          room = c .stand .roomy;
+          half = c .half;
+          some = omega (arith, g);
+          most = h;
+          whole = rw (c .stand .corners (omega (arith, h, c .stand .counted)), ← rest-more _ _ _ e t (c .here) w nay) goes;
+        }
 
-      pub round-shorter : (t ≡ start → ⊥) → length (leftOf s l start t) < length (leftOf s l start e)
-      round-shorter nay = rest-shorter _ _ _ e t (r .here) w nay
+        pub round-shorter : (t ≡ start → ⊥) → length (leftOf s l start t) < length (leftOf s l start e)
+        round-shorter nay = rest-shorter _ _ _ e t (c .here) w nay

@@ -1,1 +1,2 @@
 pub mod Candidates
+pub mod inner

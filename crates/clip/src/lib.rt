@@ -1,5 +1,7 @@
 // The candidates of a face contact, from clip.rs and hulls.rs: the face of hull B that lies flattest against a face of hull A, as a polygon in A's
 // frame, cut by the sides of A's face one after the other. What the candidates are, as a list, is in specs/Candidates.antt.
+pub mod sides;
+
 ghost use mathlib.Core.Path.{_≡_};
 ghost use Prim.Native.Nat.{_<_};
 ghost use Rattle.rotation.specs.Rotation.{Rows};
@@ -7,10 +9,12 @@ ghost use Rattle.hull_links.specs.Links.{faceRing};
 ghost use Rattle.hull.specs.Numbers.{planeAt};
 ghost use Rattle.hull.specs.Accepted.{Accepted};
 ghost use Rattle.clip_corners.specs.Places.{Roomy, Laid};
-ghost use Rattle.clip_corners.specs.Results.{clippedOf};
-ghost use Rattle.clip.specs.Candidates.{cornerOf, builtOf, sidePlaneOf, cutRound, candidatesOf};
-use clip_corners::Clipped;
-use clip_corners::packed;
+ghost use Rattle.clip_corners.specs.Standing.{Standing};
+ghost use Rattle.clip.specs.Candidates.{cornerOf, builtOf, cutRound, candidatesOf};
+use crate::sides::fill_sides;
+use crate::sides::next_side;
+use crate::sides::side_in;
+use clip_corners::Kept;
 use clip_corners::put;
 use clip_incident::find_incident_face;
 use hull_links::HullSize;
@@ -21,10 +25,6 @@ use vector::Plane;
 use vector::Transform;
 use vector::Vec3;
 use vector::arithmetic::add;
-use vector::arithmetic::cross;
-use vector::arithmetic::normalize;
-use vector::arithmetic::sub;
-use vector::shape::make_plane_from_normal_and_point;
 use vector::shape::plane_separation;
 
 // The corner at the end of half-edge e, carried into the other frame; its tag is e and the half-edge after it.
@@ -92,20 +92,9 @@ pub fn build_polygon(
     }
 }
 
-// The plane that stands on half-edge e of a face with this normal, and looks away from the face.
-fn side_plane(numbers: &[f32], links: &[u8], size: HullSize, e: usize, normal: Vec3) -> Plane
-    requires { ⌜ Accepted size (now numbers) (now links) × (e < size .«half_edges») ⌝ }
-    ensures { λ r. ⌜ r ≡ sidePlaneOf size (now (numbers .entry)) (now (links .entry)) normal e ⌝ }
-{
-    let ahead = hull_links::next_of(links, size, e);
-    let vertex1 = hull::vertex_at(numbers, size, hull_links::origin_of(links, size, e));
-    let vertex2 = hull::vertex_at(numbers, size, hull_links::origin_of(links, size, ahead));
-    let tangent = normalize(sub(vertex2, vertex1));
-    make_plane_from_normal_and_point(cross(tangent, normal), vertex1)
-}
-
 // A face of hull B as a polygon in A's frame, cut by the sides of a face of hull A in the order of its ring. A cut that leaves fewer than three
-// corners, or more than 64, is the last. Each cut goes from one half of the lists to the other.
+// corners, or more than 64, is the last. The sides are worked out before the polygon is laid, sixteen at a time. What stood in the lent lists before
+// does not matter.
 pub fn clip_to_face(
     numbers_a: &[f32],
     links_a: &[u8],
@@ -116,17 +105,27 @@ pub fn clip_to_face(
     size_b: HullSize,
     transform: Transform,
     incident: usize,
-) -> Clipped
+    places: &mut [f32],
+    tags: &mut [u8],
+) -> Kept
     requires { ⌜ Accepted «size_a» (now «numbers_a») (now «links_a») × Accepted «size_b» (now «numbers_b») (now «links_b»)
-        × (face < «size_a» .faces) × (incident < «size_b» .faces) ⌝ }
-    ensures { λ r. ⌜ r ≡ clippedOf (cutRound «size_a» (now («numbers_a» .entry)) (now («links_a» .entry)) face
+        × (face < «size_a» .faces) × (incident < «size_b» .faces) × Roomy (now places) (now tags) ⌝ }
+    ensures { λ r. ⌜ Standing (now (places .exit)) (now (tags .exit)) (cutRound «size_a» (now («numbers_a» .entry)) (now («links_a» .entry)) face
         (faceRing «size_a» (now («links_a» .entry)) face) (builtOf «size_b» (now («numbers_b» .entry)) (now («links_b» .entry)) transform
-        (planeAt «size_a» (now («numbers_a» .entry)) face) incident)) ⌝ }
+        (planeAt «size_a» (now («numbers_a» .entry)) face) incident)) r ⌝ }
 {
     let reference = hull::plane_at(numbers_a, size_a, face);
     let start = hull_links::face_edge(links_a, size_a, face);
-    let mut places = [0.0f32; 512];
-    let mut tags = [0u8; 512];
+    let mut sides = [0.0f32; 64];
+    fill_sides(
+        numbers_a,
+        links_a,
+        size_a,
+        start,
+        start,
+        reference.normal,
+        &mut sides,
+    );
     let mut n = build_polygon(
         numbers_b,
         links_b,
@@ -134,26 +133,37 @@ pub fn clip_to_face(
         transform,
         incident,
         reference,
-        &mut places,
-        &mut tags,
+        places,
+        tags,
     );
     let mut p = 0;
     let mut e = start;
+    let mut k = 0;
     loop {
-        let plane = side_plane(numbers_a, links_a, size_a, e, reference.normal);
-        let q = 64 - p;
-        n = clip_cut::clip_polygon(&mut places, &mut tags, p, n, plane, e as u8, reference, q);
-        p = q;
-        if n > 64 {
-            return packed(&places, &tags, p, n);
+        let plane = side_in(&sides, k);
+        let kept = clip_cut::cut_side(places, tags, p, n, plane, e as u8, reference);
+        if kept.count > 64 {
+            return kept;
         }
-        if n < 3 {
-            return packed(&places, &tags, p, n);
+        if kept.count < 3 {
+            return kept;
         }
         e = hull_links::next_of(links_a, size_a, e);
         if e == start {
-            return packed(&places, &tags, p, n);
+            return kept;
         }
+        p = kept.from;
+        n = kept.count;
+        k = next_side(
+            numbers_a,
+            links_a,
+            size_a,
+            start,
+            e,
+            reference.normal,
+            &mut sides,
+            k,
+        );
     }
 }
 
@@ -168,11 +178,13 @@ pub fn candidates(
     transform: Transform,
     face: usize,
     vertex: usize,
-) -> Clipped
+    places: &mut [f32],
+    tags: &mut [u8],
+) -> Kept
     requires { ⌜ Accepted «size_a» (now «numbers_a») (now «links_a») × Accepted «size_b» (now «numbers_b») (now «links_b»)
-        × (face < «size_a» .faces) × (vertex < «size_b» .vertices) ⌝ }
-    ensures { λ r. ⌜ r ≡ clippedOf (candidatesOf «size_a» (now («numbers_a» .entry)) (now («links_a» .entry)) «size_b» (now («numbers_b» .entry))
-        (now («links_b» .entry)) transform face vertex) ⌝ }
+        × (face < «size_a» .faces) × (vertex < «size_b» .vertices) × Roomy (now places) (now tags) ⌝ }
+    ensures { λ r. ⌜ Standing (now (places .exit)) (now (tags .exit)) (candidatesOf «size_a» (now («numbers_a» .entry)) (now («links_a» .entry))
+        «size_b» (now («numbers_b» .entry)) (now («links_b» .entry)) transform face vertex) r ⌝ }
 {
     let reference = hull::plane_at(numbers_a, size_a, face);
     let normal = rotation::inv_rotate_vector(transform.q, reference.normal);
@@ -187,5 +199,7 @@ pub fn candidates(
         size_b,
         transform,
         incident,
+        places,
+        tags,
     )
 }

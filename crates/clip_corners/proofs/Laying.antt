@@ -17,7 +17,7 @@ use Rattle.clip_corners.specs.Places.{Roomy, cornerIn, four, numbersWith
 
 -- ---- four places
 module _ {A : Type 0} (l : List A) (a : ℕ) (x y z w : A) where
-  four-length : length (four l a x y z w) ≡ length l
+  pub four-length : length (four l a x y z w) ≡ length l
   four-length =
       length-set (set (set (set l a x) (a + 1) y) (a + 2) z) (a + 3) w
       ∙ length-set (set (set l a x) (a + 1) y) (a + 2) z
@@ -25,7 +25,7 @@ module _ {A : Type 0} (l : List A) (a : ℕ) (x y z w : A) where
       ∙ length-set l a x
 
   -- the places beside them stay
-  four-beside : (j : ℕ) (d : A) → (j < a) ⊎ (a + 4 ≤ j) → getD (four l a x y z w) j d ≡ getD l j d
+  pub four-beside : (j : ℕ) (d : A) → (j < a) ⊎ (a + 4 ≤ j) → getD (four l a x y z w) j d ≡ getD l j d
   four-beside j d o =
       getD-set-other (set (set (set l a x) (a + 1) y) (a + 2) z) (a + 3) j w d (apart o 3 (omega arith))
       ∙ getD-set-other (set (set l a x) (a + 1) y) (a + 2) j z d (apart o 2 (omega arith))
@@ -41,25 +41,25 @@ module _ {A : Type 0} (l : List A) (a : ℕ) (x y z w : A) where
       first (inr h) q = omega arith
 
   module _ (d : A) (room : a + 4 ≤ length l) where
-    four-0 : getD (four l a x y z w) a d ≡ x
+    pub four-0 : getD (four l a x y z w) a d ≡ x
     four-0 =
         getD-set-other (set (set (set l a x) (a + 1) y) (a + 2) z) (a + 3) a w d (λ (q : a ≡ a + 3). omega arith)
         ∙ getD-set-other (set (set l a x) (a + 1) y) (a + 2) a z d (λ (q : a ≡ a + 2). omega arith)
         ∙ getD-set-other (set l a x) (a + 1) a y d (λ (q : a ≡ a + 1). omega arith)
         ∙ getD-set-same l a x d (omega arith)
 
-    four-1 : getD (four l a x y z w) (a + 1) d ≡ y
+    pub four-1 : getD (four l a x y z w) (a + 1) d ≡ y
     four-1 =
         getD-set-other (set (set (set l a x) (a + 1) y) (a + 2) z) (a + 3) (a + 1) w d (λ (q : a + 1 ≡ a + 3). omega arith)
         ∙ getD-set-other (set (set l a x) (a + 1) y) (a + 2) (a + 1) z d (λ (q : a + 1 ≡ a + 2). omega arith)
         ∙ getD-set-same (set l a x) (a + 1) y d (omega (arith, length-set l a x))
 
-    four-2 : getD (four l a x y z w) (a + 2) d ≡ z
+    pub four-2 : getD (four l a x y z w) (a + 2) d ≡ z
     four-2 =
         getD-set-other (set (set (set l a x) (a + 1) y) (a + 2) z) (a + 3) (a + 2) w d (λ (q : a + 2 ≡ a + 3). omega arith)
         ∙ getD-set-same (set (set l a x) (a + 1) y) (a + 2) z d (omega (arith, length-set (set l a x) (a + 1) y, length-set l a x))
 
-    four-3 : getD (four l a x y z w) (a + 3) d ≡ w
+    pub four-3 : getD (four l a x y z w) (a + 3) d ≡ w
     four-3 =
         getD-set-same (set (set (set l a x) (a + 1) y) (a + 2) z) (a + 3) w d
         (omega (arith, length-set (set (set l a x) (a + 1) y) (a + 2) z, length-set (set l a x) (a + 1) y, length-set l a x))

@@ -1,3 +1,2 @@
 pub mod Laying
 pub mod Reading
-pub mod Results

@@ -7,10 +7,7 @@ use mathlib.Core.List.{List, [], _∷_}
 use lib.ListN.{length, getD, set}
 use lib.Dec.{ltb}
 use lib.Ieee.{Float, nan}
-use Rattle.vector.specs.Scalar.{minIntOf}
 use Rattle.manifold.specs.declared.ClipVertex.{ClipVertex}
-use Rattle.manifold.specs.Polygons.{polygonOf}
-use Rattle.clip_corners.specs.declared.Clipped.{Clipped}
 
 -- there is room for 128 corners
 pub record Roomy (n : List Float) (t : List ℕ) : Type 0 where
@@ -21,6 +18,10 @@ pub record Roomy (n : List Float) (t : List ℕ) : Type 0 where
 pub record SideBySide (p q : ℕ) : Type 0 where
   pub low : (p ≤ 64) × (q ≤ 64)
   pub apart : (p + 64 ≤ q) ⊎ (q + 64 ≤ p)
+
+-- corner p is the first of one half of the lists
+abbrev pub Half : ℕ → Type 0
+Half p = (p ≡ 0) ⊎ (p ≡ 64)
 
 -- ---- reading
 -- corner p
@@ -35,10 +36,6 @@ cornerIn n t p = record {
 unfoldable pub cornersIn : List Float → List ℕ → ℕ → ℕ → List ClipVertex
 cornersIn n t p zero = []
 cornersIn n t p (suc k) = cornerIn n t p ∷ cornersIn n t (p + 1) k
-
--- the first 64 of the k corners from corner p on, and whether there is a 65th
-unfoldable pub packedOf : List Float → List ℕ → ℕ → ℕ → Clipped
-packedOf n t p k = record { polygon = polygonOf (cornersIn n t p (minIntOf k 64)); full = ltb 64 k }
 
 -- ---- writing
 -- four places from place a on

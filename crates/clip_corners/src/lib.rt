@@ -4,18 +4,16 @@ ghost use mathlib.Core.Path.{_≡_};
 ghost use mathlib.Core.List.{[], _∷_};
 ghost use Prim.Native.Nat.{_≤_, _<_};
 ghost use lib.ListN.{length};
-ghost use Rattle.clip_corners.specs.Places.{Roomy, cornerIn, packedOf, numbersWith, tagsWith, Laid};
+ghost use Rattle.clip_corners.specs.Places.{Roomy, cornerIn, numbersWith, tagsWith, Laid};
 use manifold::ClipVertex;
 use manifold::FeaturePair;
-use manifold::Polygon;
 use vector::Vec3;
-use vector::scalar::min_int;
 
-// What a cut leaves: the first 64 corners, and whether there was a 65th, which is refusal 6.
+// Where corners stand in the lent lists, and how many there are. Past 64 of them only the number is right.
 #[repr(C)]
-pub struct Clipped {
-    pub polygon: Polygon,
-    pub full: bool,
+pub struct Kept {
+    pub from: usize,
+    pub count: usize,
 }
 
 // Corner p.
@@ -74,28 +72,4 @@ pub fn put(numbers: &mut [f32], tags: &mut [u8], p: usize, k: usize, v: ClipVert
         return k + 1;
     }
     k + 1
-}
-
-// A polygon of the first 64 of the k corners from corner p on.
-pub fn packed(numbers: &[f32], tags: &[u8], p: usize, k: usize) -> Clipped
-    requires { ⌜ Roomy (now numbers) (now tags) × (p ≤ 64) ⌝ }
-    ensures { λ r. ⌜ r ≡ packedOf (now (numbers .entry)) (now (tags .entry)) p k ⌝ }
-{
-    let n = min_int(k, 64);
-    let zero = manifold::records::zero_vertex();
-    let mut out = [zero; 64];
-    let mut i = 0;
-    while i < n {
-        let v = corner_at(numbers, tags, p + i);
-        out[i] = v;
-        i += 1;
-    }
-    let polygon = Polygon {
-        vertices: out,
-        count: n,
-    };
-    Clipped {
-        polygon,
-        full: 64 < k,
-    }
 }

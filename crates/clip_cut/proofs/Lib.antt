@@ -1,1 +1,3 @@
 pub mod Cutting
+pub mod Halves
+pub mod Keeping

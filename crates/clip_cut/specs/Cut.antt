@@ -1,6 +1,6 @@
 -- "Cut: points at distance 0 are kept; leaving gives one new vertex, entering gives a new one and the old one." Definitions only.
 use Prim.Native.Nat.{ℕ}
-use mathlib.Core.Bool.{Bool, cond}
+use mathlib.Core.Bool.{Bool, true, false, cond}
 use mathlib.Core.List.{List, [], _∷_, _++_}
 use lib.Ieee as Ieee
 use lib.Ieee.{Float}
@@ -60,3 +60,8 @@ lastOf v (w ∷ vs) = lastOf w vs
 -- the whole cut: the first edge comes from the last vertex
 unfoldable pub cutOf : Plane → ℕ → Plane → List ClipVertex → List ClipVertex
 cutOf plane edge reference vs = cutFrom plane edge reference (lastOf zeroVertex vs) vs
+
+-- whether every vertex is kept
+unfoldable pub allKept : Plane → List ClipVertex → Bool
+allKept plane [] = true
+allKept plane (v ∷ vs) = cond (kept (planeSeparationOf plane (v .position))) (allKept plane vs) false

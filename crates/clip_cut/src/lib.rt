@@ -1,9 +1,13 @@
 // One cut of a polygon by a plane, from clip.rs: what lies on or below the plane stays, and new corners stand where the outline meets it.
 // What each edge of the polygon puts out, and the whole cut as a list, is in specs/Cut.antt.
 ghost use mathlib.Core.Path.{_≡_};
-ghost use Prim.Native.Nat.{_≤_, _<_};
-ghost use Rattle.clip_cut.specs.Cut.{meetingOf, leavingOf, enteringOf, putOutOf, cutOf};
-ghost use Rattle.clip_corners.specs.Places.{Roomy, SideBySide, cornersIn, Laid};
+ghost use mathlib.Core.List.{List};
+ghost use Prim.Native.Nat.{ℕ, _≤_, _<_};
+ghost use lib.ListN.{length};
+ghost use Rattle.clip_cut.specs.Cut.{meetingOf, leavingOf, enteringOf, putOutOf, cutOf, allKept};
+ghost use Rattle.clip_corners.specs.Places.{Roomy, SideBySide, Half, cornersIn, Laid};
+ghost use Rattle.clip_corners.specs.Standing.{Standing};
+use clip_corners::Kept;
 use clip_corners::corner_at;
 use clip_corners::put;
 use manifold::ClipVertex;
@@ -135,4 +139,50 @@ pub fn clip_polygon(
         i += 1;
     }
     k
+}
+
+// Whether a cut by this plane leaves the polygon of n corners from corner p on as it is: all its corners are kept. Whatever their tags, which are
+// not read.
+pub fn keeps_all(numbers: &[f32], p: usize, n: usize, plane: Plane) -> bool
+    requires { ⌜ (length (now numbers) ≡ 512) × (p ≤ 64) × (n ≤ 64) ⌝ }
+    ensures { λ r. ⌜ ((t : List ℕ) → r ≡ allKept plane (cornersIn (now (numbers .entry)) t p n)) ⌝ }
+{
+    let mut i = 0;
+    while i < n {
+        let a = 4 * (p + i);
+        let position = Vec3 {
+            x: numbers[a],
+            y: numbers[a + 1],
+            z: numbers[a + 2],
+        };
+        let d = plane_separation(plane, position);
+        if !(d <= 0.0) {
+            return false;
+        }
+        i += 1;
+    }
+    true
+}
+
+// The cut of the polygon of n corners from corner p on, the first of one half of the lists. A cut that keeps every corner is left out; what any other
+// leaves stands in the other half.
+pub fn cut_side(
+    numbers: &mut [f32],
+    tags: &mut [u8],
+    p: usize,
+    n: usize,
+    plane: Plane,
+    edge: u8,
+    reference: Plane,
+) -> Kept
+    requires { ⌜ Roomy (now numbers) (now tags) × Half p × (0 < n) × (n ≤ 64) ⌝ }
+    ensures { λ r. ⌜ Standing (now (numbers .exit)) (now (tags .exit)) (cutOf plane edge reference (cornersIn (now (numbers .entry))
+        (now (tags .entry)) p n)) r × Half (r .from) ⌝ }
+{
+    if keeps_all(numbers, p, n, plane) {
+        return Kept { from: p, count: n };
+    }
+    let q = 64 - p;
+    let m = clip_polygon(numbers, tags, p, n, plane, edge, reference, q);
+    Kept { from: q, count: m }
 }

@@ -4,6 +4,7 @@ pub mod ridges;
 ghost use mathlib.Core.Path.{_≡_};
 ghost use Prim.Native.Nat.{_+_, _<_};
 ghost use Rattle.hull.specs.Accepted.{Accepted};
+ghost use Rattle.clip_corners.specs.Places.{Roomy};
 ghost use Rattle.collide_cached.specs.Again.{cachedFaceAOf, cachedFaceBOf, cachedEdgeOf};
 use crate::ridges::axis_between;
 use crate::ridges::carried_ridge;
@@ -36,11 +37,13 @@ pub fn cached_face_a(
     size_b: HullSize,
     transform: Transform,
     cache: SatCache,
+    places: &mut [f32],
+    tags: &mut [u8],
 ) -> Cached
     requires { ⌜ Accepted «size_a» (now «numbers_a») (now «links_a») × Accepted «size_b» (now «numbers_b») (now «links_b»)
-        × (cache .«index_a» < «size_a» .faces) ⌝ }
-    ensures { λ r. ⌜ r ≡ cachedFaceAOf «size_a» (now («numbers_a» .entry)) (now («links_a» .entry)) «size_b» (now («numbers_b» .entry))
-        (now («links_b» .entry)) transform cache ⌝ }
+        × (cache .«index_a» < «size_a» .faces) × Roomy (now places) (now tags) ⌝ }
+    ensures { λ r. ⌜ (r ≡ cachedFaceAOf «size_a» (now («numbers_a» .entry)) (now («links_a» .entry)) «size_b» (now («numbers_b» .entry))
+        (now («links_b» .entry)) transform cache) × Roomy (now (places .exit)) (now (tags .exit)) ⌝ }
 {
     let plane = hull::plane_at(numbers_a, size_a, cache.index_a as usize);
     let direction = neg(rotation::inv_rotate_vector(transform.q, plane.normal));
@@ -59,6 +62,8 @@ pub fn cached_face_a(
         transform,
         cache.index_a,
         vertex as u8,
+        places,
+        tags,
     );
     served(size_a.unit, cache, built)
 }
@@ -73,11 +78,13 @@ pub fn cached_face_b(
     size_b: HullSize,
     transform: Transform,
     cache: SatCache,
+    places: &mut [f32],
+    tags: &mut [u8],
 ) -> Cached
     requires { ⌜ Accepted «size_a» (now «numbers_a») (now «links_a») × Accepted «size_b» (now «numbers_b») (now «links_b»)
-        × (cache .«index_b» < «size_b» .faces) ⌝ }
-    ensures { λ r. ⌜ r ≡ cachedFaceBOf «size_a» (now («numbers_a» .entry)) (now («links_a» .entry)) «size_b» (now («numbers_b» .entry))
-        (now («links_b» .entry)) transform cache ⌝ }
+        × (cache .«index_b» < «size_b» .faces) × Roomy (now places) (now tags) ⌝ }
+    ensures { λ r. ⌜ (r ≡ cachedFaceBOf «size_a» (now («numbers_a» .entry)) (now («links_a» .entry)) «size_b» (now («numbers_b» .entry))
+        (now («links_b» .entry)) transform cache) × Roomy (now (places .exit)) (now (tags .exit)) ⌝ }
 {
     let plane = hull::plane_at(numbers_b, size_b, cache.index_b as usize);
     let direction = neg(rotation::rotate_vector(transform.q, plane.normal));
@@ -99,6 +106,8 @@ pub fn cached_face_b(
         transform,
         cache.index_b,
         vertex as u8,
+        places,
+        tags,
     );
     served(size_a.unit, cache, built)
 }

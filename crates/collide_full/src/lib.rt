@@ -3,6 +3,7 @@ ghost use mathlib.Core.Path.{_≡_};
 ghost use Prim.Native.Nat.{_<_};
 ghost use Rattle.hull_limits.specs.Transform.{Placed};
 ghost use Rattle.hull.specs.Accepted.{Accepted};
+ghost use Rattle.clip_corners.specs.Places.{Roomy};
 ghost use Rattle.axis.specs.Ranges.{EdgeInRange};
 ghost use Rattle.collide_full.specs.Full.{apartBuilt, triesEdge, pairContact, contactA, contactB, winnerContact, insteadOf, withEdge};
 ghost use Rattle.collide_full.specs.Full.{foundContact, fullOf};
@@ -92,11 +93,14 @@ fn contact_a(
     size_b: HullSize,
     transform: Transform,
     axis: Axis,
+    places: &mut [f32],
+    tags: &mut [u8],
 ) -> Built
     requires { ⌜ Accepted «size_a» (now «numbers_a») (now «links_a») × Accepted «size_b» (now «numbers_b») (now «links_b»)
-        × (axis .«index_a» < «size_a» .faces) ⌝ }
-    ensures { λ r. ⌜ r ≡ contactA «size_a» (now («numbers_a» .entry)) (now («links_a» .entry)) «size_b» (now («numbers_b» .entry))
-        (now («links_b» .entry)) transform axis ⌝ }
+        × (axis .«index_a» < «size_a» .faces) × Roomy (now places) (now tags) ⌝ }
+    ensures { λ r. ⌜ (r ≡ contactA «size_a» (now («numbers_a» .entry)) (now («links_a» .entry)) «size_b» (now («numbers_b» .entry))
+        (now («links_b» .entry)) transform axis)
+        × Roomy (now (places .exit)) (now (tags .exit)) ⌝ }
 {
     build_face_a_contact(
         numbers_a,
@@ -108,6 +112,8 @@ fn contact_a(
         transform,
         axis.index_a,
         axis.index_b,
+        places,
+        tags,
     )
 }
 
@@ -121,11 +127,14 @@ fn contact_b(
     size_b: HullSize,
     transform: Transform,
     axis: Axis,
+    places: &mut [f32],
+    tags: &mut [u8],
 ) -> Built
     requires { ⌜ Accepted «size_a» (now «numbers_a») (now «links_a») × Accepted «size_b» (now «numbers_b») (now «links_b»)
-        × (axis .«index_b» < «size_b» .faces) ⌝ }
-    ensures { λ r. ⌜ r ≡ contactB «size_a» (now («numbers_a» .entry)) (now («links_a» .entry)) «size_b» (now («numbers_b» .entry))
-        (now («links_b» .entry)) transform axis ⌝ }
+        × (axis .«index_b» < «size_b» .faces) × Roomy (now places) (now tags) ⌝ }
+    ensures { λ r. ⌜ (r ≡ contactB «size_a» (now («numbers_a» .entry)) (now («links_a» .entry)) «size_b» (now («numbers_b» .entry))
+        (now («links_b» .entry)) transform axis)
+        × Roomy (now (places .exit)) (now (tags .exit)) ⌝ }
 {
     build_face_b_contact(
         numbers_a,
@@ -137,6 +146,8 @@ fn contact_b(
         transform,
         axis.index_b,
         axis.index_a,
+        places,
+        tags,
     )
 }
 
@@ -151,11 +162,14 @@ fn winner_contact(
     transform: Transform,
     face_a: Axis,
     face_b: Axis,
+    places: &mut [f32],
+    tags: &mut [u8],
 ) -> Built
     requires { ⌜ Accepted «size_a» (now «numbers_a») (now «links_a») × Accepted «size_b» (now «numbers_b») (now «links_b»)
-        × («face_a» .«index_a» < «size_a» .faces) × («face_b» .«index_b» < «size_b» .faces) ⌝ }
-    ensures { λ r. ⌜ r ≡ winnerContact «size_a» (now («numbers_a» .entry)) (now («links_a» .entry)) «size_b» (now («numbers_b» .entry))
-        (now («links_b» .entry)) transform «face_a» «face_b» ⌝ }
+        × («face_a» .«index_a» < «size_a» .faces) × («face_b» .«index_b» < «size_b» .faces) × Roomy (now places) (now tags) ⌝ }
+    ensures { λ r. ⌜ (r ≡ winnerContact «size_a» (now («numbers_a» .entry)) (now («links_a» .entry)) «size_b» (now («numbers_b» .entry))
+        (now («links_b» .entry)) transform «face_a» «face_b»)
+        × Roomy (now (places .exit)) (now (tags .exit)) ⌝ }
 {
     if face_a.separation > face_b.separation {
         return contact_a(
@@ -167,6 +181,8 @@ fn winner_contact(
             size_b,
             transform,
             face_a,
+            places,
+            tags,
         );
     }
     contact_b(
@@ -178,6 +194,8 @@ fn winner_contact(
         size_b,
         transform,
         face_b,
+        places,
+        tags,
     )
 }
 
@@ -262,11 +280,15 @@ fn found_contact(
     face_a: Axis,
     face_b: Axis,
     edge: EdgeAxis,
+    places: &mut [f32],
+    tags: &mut [u8],
 ) -> Built
     requires { ⌜ Accepted «size_a» (now «numbers_a») (now «links_a») × Accepted «size_b» (now «numbers_b») (now «links_b»)
-        × («face_a» .«index_a» < «size_a» .faces) × («face_b» .«index_b» < «size_b» .faces) × EdgeInRange «size_a» «size_b» edge ⌝ }
-    ensures { λ r. ⌜ r ≡ foundContact «size_a» (now («numbers_a» .entry)) (now («links_a» .entry)) «size_b» (now («numbers_b» .entry))
-        (now («links_b» .entry)) transform «face_a» «face_b» edge ⌝ }
+        × («face_a» .«index_a» < «size_a» .faces) × («face_b» .«index_b» < «size_b» .faces) × EdgeInRange «size_a» «size_b» edge
+        × Roomy (now places) (now tags) ⌝ }
+    ensures { λ r. ⌜ (r ≡ foundContact «size_a» (now («numbers_a» .entry)) (now («links_a» .entry)) «size_b» (now («numbers_b» .entry))
+        (now («links_b» .entry)) transform «face_a» «face_b» edge)
+        × Roomy (now (places .exit)) (now (tags .exit)) ⌝ }
 {
     let built = winner_contact(
         numbers_a,
@@ -278,6 +300,8 @@ fn found_contact(
         transform,
         face_a,
         face_b,
+        places,
+        tags,
     );
     if built.status != 0 {
         return built;
@@ -304,10 +328,14 @@ pub fn full_search(
     links_b: &[u8],
     size_b: HullSize,
     transform: Transform,
+    places: &mut [f32],
+    tags: &mut [u8],
 ) -> Built
-    requires { ⌜ Accepted «size_a» (now «numbers_a») (now «links_a») × Accepted «size_b» (now «numbers_b») (now «links_b») × Placed transform ⌝ }
-    ensures { λ r. ⌜ r ≡ fullOf «size_a» (now («numbers_a» .entry)) (now («links_a» .entry)) «size_b» (now («numbers_b» .entry))
-        (now («links_b» .entry)) transform ⌝ }
+    requires { ⌜ Accepted «size_a» (now «numbers_a») (now «links_a») × Accepted «size_b» (now «numbers_b») (now «links_b») × Placed transform
+        × Roomy (now places) (now tags) ⌝ }
+    ensures { λ r. ⌜ (r ≡ fullOf «size_a» (now («numbers_a» .entry)) (now («links_a» .entry)) «size_b» (now («numbers_b» .entry))
+        (now («links_b» .entry)) transform)
+        × Roomy (now (places .exit)) (now (tags .exit)) ⌝ }
 {
     match compute_separating_axis(
         numbers_a,
@@ -334,6 +362,8 @@ pub fn full_search(
                 face_a,
                 face_b,
                 edge,
+                places,
+                tags,
             )
         }
     }

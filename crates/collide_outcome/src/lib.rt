@@ -13,13 +13,13 @@ use manifold::records::empty_cache;
 use manifold::records::empty_contact;
 use vector::scalar::abs_float;
 
-// What was built: a status of 0 or the number of a refusal, whether the hulls touch, the contact, and the next cache.
-// Where they do not touch the contact is empty and the cache cleared.
+// What was built: the contact, the next cache, a status of 0 or the number of a refusal, and whether the hulls touch.
+// Where they do not touch the contact is empty and the cache cleared. The bytes stand last, so that the contact is copied by words.
 pub struct Built {
-    pub status: u8,
-    pub touching: bool,
     pub contact: Contact,
     pub cache: SatCache,
+    pub status: u8,
+    pub touching: bool,
 }
 
 // They touch: the contact, and the axis that made it.
@@ -113,9 +113,9 @@ pub fn answer_of(cache: SatCache, built: Built) -> Answer
 
 // A hit, with the contact that comes of it; else the full search has to be made, or the work met a refusal, whose number is the status.
 pub struct Cached {
+    pub contact: Contact,
     pub status: u8,
     pub hit: bool,
-    pub contact: Contact,
 }
 
 pub fn hit_with(contact: Contact) -> Cached

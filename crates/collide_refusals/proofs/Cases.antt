@@ -18,7 +18,7 @@ use Rattle.hull_limits.proofs.Placed.{placed}
 use Rattle.hull.specs.Rule8.{brokenRule}
 use Rattle.hull.specs.Accepted.{Accepted}
 use Rattle.hull.proofs.Accepted.{accepted}
-use Rattle.collide_refusals.specs.Refusals.{firstHalf, cacheRight, unless, refusalOf}
+use Rattle.collide_refusals.specs.Refusals.{firstHalf, cacheRight, unless, laterRefusalOf, refusalOf}
 
 -- ---- refusal 4
 and-true : (a : Bool) → a ≡ (a & true)
@@ -128,6 +128,21 @@ early-numbers true true true false c = inl (omega arith)
 early-numbers true true true true false = inl (omega arith)
 early-numbers true true true true true = inl (omega arith)
 
+-- ---- what is left to be refused of two hulls that break no rule, at each of its cases
+module _ (s t : HullSize) (x : Transform) (c : SatCache) where
+  pub later-17 : (s .unit ≡ t .unit → ⊥) → 17 ≡ laterRefusalOf s t x c
+  later-17 u = rw (ne-eqb _ _ u)
+
+  module _ (u : s .unit ≡ t .unit) where
+    pub later-3 : transformRight (s .unit) x ≡ false → 3 ≡ laterRefusalOf s t x c
+    later-3 d = rw (eq-eqb _ _ u, d)
+
+    pub later-4 : transformRight (s .unit) x ≡ true → cacheRight s t c ≡ false → 4 ≡ laterRefusalOf s t x c
+    later-4 d e = rw (eq-eqb _ _ u, d, e)
+
+    pub later-none : transformRight (s .unit) x ≡ true → cacheRight s t c ≡ true → 0 ≡ laterRefusalOf s t x c
+    later-none d e = rw (eq-eqb _ _ u, d, e)
+
 module _ (s : HullSize) (n : List Float) (l : List ℕ) (t : HullSize) (m : List Float) (k : List ℕ) (x : Transform) (c : SatCache) where
   -- the five tests
   abbrev kept-a : Bool
@@ -149,28 +164,24 @@ module _ (s : HullSize) (n : List Float) (l : List ℕ) (t : HullSize) (m : List
   unfolding refusalOf
   refuses-1 a = rw (ne-eqb _ _ a)
 
-  module _ (a : brokenRule s n l ≡ 0) where
-    pub refuses-2 : (brokenRule t m k ≡ 0 → ⊥) → 2 ≡ refusalOf s n l t m k x c
-    unfolding refusalOf
-    refuses-2 b = rw (eq-eqb _ _ a, ne-eqb _ _ b)
+  pub refuses-2 : brokenRule s n l ≡ 0 → (brokenRule t m k ≡ 0 → ⊥) → 2 ≡ refusalOf s n l t m k x c
+  unfolding refusalOf
+  refuses-2 a b = rw (eq-eqb _ _ a, ne-eqb _ _ b)
 
-    module _ (b : brokenRule t m k ≡ 0) where
-      pub refuses-17 : (s .unit ≡ t .unit → ⊥) → 17 ≡ refusalOf s n l t m k x c
-      unfolding refusalOf
-      refuses-17 u = rw (eq-eqb _ _ a, eq-eqb _ _ b, ne-eqb _ _ u)
+  -- of two hulls that break no rule what is left decides
+  pub refuses-later : brokenRule s n l ≡ 0 → brokenRule t m k ≡ 0 → laterRefusalOf s t x c ≡ refusalOf s n l t m k x c
+  unfolding refusalOf
+  refuses-later a b = rw (eq-eqb _ _ a, eq-eqb _ _ b)
 
-      module _ (u : s .unit ≡ t .unit) where
-        pub refuses-3 : transformRight (s .unit) x ≡ false → 3 ≡ refusalOf s n l t m k x c
-        unfolding refusalOf
-        refuses-3 d = rw (eq-eqb _ _ a, eq-eqb _ _ b, eq-eqb _ _ u, d)
+  module _ (a : brokenRule s n l ≡ 0) (b : brokenRule t m k ≡ 0) where
+    pub refuses-17 : (s .unit ≡ t .unit → ⊥) → 17 ≡ refusalOf s n l t m k x c
+    refuses-17 u = later-17 s t x c u ∙ refuses-later a b
 
-        pub refuses-4 : transformRight (s .unit) x ≡ true → cacheRight s t c ≡ false → 4 ≡ refusalOf s n l t m k x c
-        unfolding refusalOf
-        refuses-4 d e = rw (eq-eqb _ _ a, eq-eqb _ _ b, eq-eqb _ _ u, d, e)
+    pub refuses-3 : s .unit ≡ t .unit → transformRight (s .unit) x ≡ false → 3 ≡ refusalOf s n l t m k x c
+    refuses-3 u d = later-3 s t x c u d ∙ refuses-later a b
 
-        pub refuses-none : transformRight (s .unit) x ≡ true → cacheRight s t c ≡ true → 0 ≡ refusalOf s n l t m k x c
-        unfolding refusalOf
-        refuses-none d e = rw (eq-eqb _ _ a, eq-eqb _ _ b, eq-eqb _ _ u, d, e)
+    pub refuses-4 : s .unit ≡ t .unit → transformRight (s .unit) x ≡ true → cacheRight s t c ≡ false → 4 ≡ refusalOf s n l t m k x c
+    refuses-4 u d e = later-4 s t x c u d e ∙ refuses-later a b
 
   -- ---- and what each number says
   pub means-1 : refusalOf s n l t m k x c ≡ 1 → brokenRule s n l ≡ 0 → ⊥

@@ -27,12 +27,16 @@ cacheRight s t c =
 abbrev pub unless : ℕ → Bool → ℕ → ℕ
 unless number test later = cond test later number
 
--- "1, 2: hull A, hull B breaks a rule; 3: the transform breaks a rule"; 4. "Both hulls of a call must agree", and the transform's limit goes by their
--- unit. The number of the first that is given, 0 if none
+-- "3: the transform breaks a rule"; 4. "Both hulls of a call must agree", and the transform's limit goes by their unit. What these give, 0 if nothing
+abbrev pub laterRefusalOf : HullSize → HullSize → Transform → SatCache → ℕ
+laterRefusalOf s t x cache =
+    unless 17 (eqb (s .unit) (t .unit))
+    (unless 3 (transformRight (s .unit) x)
+    (unless 4 (cacheRight s t cache) 0))
+
+-- "1, 2: hull A, hull B breaks a rule". The number of the first that is given, 0 if none
 unfoldable pub refusalOf : HullSize → List Float → List ℕ → HullSize → List Float → List ℕ → Transform → SatCache → ℕ
 refusalOf s n l t m k x cache =
     unless 1 (eqb (brokenRule s n l) 0)
     (unless 2 (eqb (brokenRule t m k) 0)
-    (unless 17 (eqb (s .unit) (t .unit))
-    (unless 3 (transformRight (s .unit) x)
-    (unless 4 (cacheRight s t cache) 0))))
+    (laterRefusalOf s t x cache))

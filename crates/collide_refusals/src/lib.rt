@@ -1,8 +1,7 @@
-// The refusals that are given before any work, in their order: 1 and 2 of the hulls, 17 of their units, 3 of the transform, 4 of what the cache names.
-// What each says is in specs/Refusals.antt.
+// The refusals that are given before any work, in their order: 1 and 2 of the hulls, which the caller judges, 17 of their units, 3 of the transform,
+// 4 of what the cache names. What each says is in specs/Refusals.antt.
 ghost use mathlib.Core.Path.{_≡_};
-ghost use Rattle.collide_refusals.specs.Refusals.{firstHalf, cacheRight, refusalOf};
-use hull::first_broken_rule;
+ghost use Rattle.collide_refusals.specs.Refusals.{firstHalf, cacheRight, laterRefusalOf};
 use hull_limits::transform::transform_accepted;
 use hull_links::HullSize;
 use manifold::SatCache;
@@ -36,26 +35,15 @@ fn cache_right(size_a: HullSize, size_b: HullSize, cache: SatCache) -> bool
     }
 }
 
-// The first refusal that is given before any work, 0 if none.
-pub fn first_refusal(
-    numbers_a: &[f32],
-    links_a: &[u8],
+// The first refusal that is given before any work to two hulls that break no rule, 0 if none: 17, 3, 4.
+pub fn later_refusal(
     size_a: HullSize,
-    numbers_b: &[f32],
-    links_b: &[u8],
     size_b: HullSize,
     transform: Transform,
     cache: SatCache,
 ) -> u8
-    ensures { λ r. ⌜ r ≡ refusalOf «size_a» (now («numbers_a» .entry)) (now («links_a» .entry)) «size_b» (now («numbers_b» .entry))
-        (now («links_b» .entry)) transform cache ⌝ }
+    ensures { λ r. ⌜ r ≡ laterRefusalOf «size_a» «size_b» transform cache ⌝ }
 {
-    if first_broken_rule(numbers_a, links_a, size_a) != 0 {
-        return 1;
-    }
-    if first_broken_rule(numbers_b, links_b, size_b) != 0 {
-        return 2;
-    }
     if size_a.unit != size_b.unit {
         return 17;
     }

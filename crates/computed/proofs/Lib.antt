@@ -10,3 +10,4 @@ pub mod LimitsCached
 pub mod LimitsCut
 pub mod LimitsFrames
 pub mod LimitsUnits
+pub mod LimitsStep

@@ -1,6 +1,6 @@
 -- Both sides of each limit, sign and tie of the cuts, the candidates and the picks, one row each. Assumes nothing.
 use mathlib.Core.Path.{_≡_, refl}
-use mathlib.Core.Bool.{Bool, true}
+use mathlib.Core.Bool.{true}
 use mathlib.Core.List.{List, [], _∷_, _++_, map}
 use Prim.Native.Nat.{ℕ, _*_}
 use lib.ListN.{length, replicate}
@@ -12,7 +12,7 @@ use Rattle.vector.specs.declared.Vec3.{Vec3}
 use Rattle.vector.specs.declared.Plane.{Plane}
 use Rattle.vector.specs.declared.Transform.{Transform}
 use Rattle.vector.specs.Rounded.{float}
-use Rattle.vector.specs.Scalar.{absOf, minOf, maxOf, minIntOf}
+use Rattle.vector.specs.Scalar.{absOf, minOf, maxOf}
 use Rattle.vector.specs.Arithmetic.{addOf, subOf, negOf, dotOf, crossOf, lengthSquaredOf, mulAddOf, mulSubOf}
 use Rattle.vector.specs.Shape.{planeSeparationOf}
 use Rattle.vector.specs.Awaited.{arbitraryPerpOf}
@@ -24,8 +24,7 @@ use Rattle.manifold.specs.Pairs.{flipOf}
 use Rattle.manifold.specs.Polygons.{turns}
 use Rattle.hull_links.specs.Walks.{until, ring}
 use Rattle.hull.specs.Numbers.{vertexAt, planeAt}
-use Rattle.clip_corners.specs.Places.{cornerIn, cornersIn, packedOf}
-use Rattle.clip_corners.specs.Results.{clippedOf}
+use Rattle.clip_corners.specs.Places.{laid}
 use Rattle.clip_cut.specs.Cut.{kept, beyond, meetingOf, leavingOf, enteringOf, putOutOf}
 use Rattle.clip_incident.specs.Incident.{flatterOf, lowerFaceOf}
 use Rattle.clip.specs.Candidates.{builtOf, goesOn}
@@ -82,12 +81,12 @@ enters = 0 ∷ 7 ∷ 1 ∷ 3 ∷ 1 ∷ 4 ∷ 1 ∷ 5 ∷ []
 abbrev readOf : ℕ → ℕ
 readOf h = length (builtOf (sizes 0 h 1) [] (replicate (4 * h) 1) (record { p = o; q = record { v = o; s = float 0x3f80_0000 } }) level 0)
 
--- so many corners in all: does a cut go on with them; are there more than the places hold, told of a list and of lent lists; the status of their contact
+-- so many corners in all: does a cut go on with them; where they are put behind k that stand from corner p on; the status of their contact
 abbrev many : ℕ → List ClipVertex
 many n = replicate n zeroVertex
 
-abbrev lent : ℕ → Bool
-lent n = packedOf [] [] 0 n .full
+abbrev put : ℕ → ℕ → ℕ → List ℕ
+put p k n = laid (λ (at : List ℕ) (q : ℕ) (v : ClipVertex). q ∷ at) [] p k (many n)
 
 abbrev onto : List ClipVertex → Built
 onto candidates = onFace 1 emptyContact 2 3 4 candidates
@@ -155,9 +154,10 @@ table =
     ∷ row (out 0x0000_0001 0x0000_0001) [] ∷ row (out 0x7fc0_0000 0) [] ∷ row (out 0 0x7fc0_0000) []
     -- "A face ring longer than 64 is read to 64."
     ∷ is (readOf 62) 63 ∷ is (readOf 63) 64 ∷ is (readOf 64) 64
+    -- "a clip buffer has 64 places."
+    ∷ row (put 0 62 3) (63 ∷ 62 ∷ []) ∷ row (put 64 63 2) (127 ∷ [])
     -- "6: a cut would put out a 65th vertex", and fewer than 3 are cut no more
     ∷ no (goesOn (many 2)) ∷ yes (goesOn (many 3)) ∷ yes (goesOn (many 64)) ∷ no (goesOn (many 65))
-    ∷ no (clippedOf (many 64) .full) ∷ yes (clippedOf (many 65) .full) ∷ is (clippedOf (many 65) .polygon .count) 64 ∷ no (lent 64) ∷ yes (lent 65)
     ∷ is (onto (many 64) .status) 0 ∷ is (onto (many 65) .status) 6
     -- "Fewer than 3 left, or least separation at or above speculative: not touching, cache cleared."
     ∷ no (touchingOf far 2 (float 0)) ∷ yes (touchingOf far 3 (float 0)) ∷ no (touchingOf far 3 (float 0x3ca3_d70b))
@@ -210,8 +210,8 @@ table =
     ∷ []
 
 pub limits : given table ≡ said table
-unfolding unitsPerMeter slop speculative absOf minOf maxOf minIntOf addOf subOf negOf dotOf crossOf lengthSquaredOf mulAddOf mulSubOf planeSeparationOf
-    matrixOf mulMvOf flipOf turns until ring vertexAt planeAt cornerIn cornersIn packedOf clippedOf meetingOf leavingOf enteringOf putOutOf flatterOf
+unfolding unitsPerMeter slop speculative absOf minOf maxOf addOf subOf negOf dotOf crossOf lengthSquaredOf mulAddOf mulSubOf planeSeparationOf
+    matrixOf mulMvOf flipOf turns until ring vertexAt planeAt laid meetingOf leavingOf enteringOf putOutOf flatterOf
     lowerFaceOf builtOf goesOn imageOf leastSeparationOf touchingOf betterPickOf asGoodOf reachOf firstTurn acrossOf spreadOf signedAreaOf sideOf outsideOf
     triangleOf without standing taken firstBest secondBest thirdBest fourthBest fourthPicks thirdPicks secondPicks firstPicks allOrPicked pointsOf numbered
     placesOf pointOf placedFrom normalOf contactOf arbitraryPerpOf imagesOn picksOn carriedOf contactOnA contactOnB onFace touchedOf Ieee.size Ieee.ofBits

@@ -23,6 +23,7 @@ use Rattle.collide_outcome.specs.Answers.{accepted}
 use Rattle.collide_refusals.specs.Refusals.{refusalOf}
 use Rattle.collide.specs.Call.{collideOf}
 use Rattle.frame_encode.specs.Bytes.{floatBytes, cacheBytes, answerBytes}
+use Rattle.lists.specs.Written as Written
 use Rattle.frame_decode.specs.Fields as Fields
 use Rattle.frame_decode.specs.Fields.{signed, sizeAt}
 use Rattle.frame_decode.specs.Hulls.{linksFrom, hullLength, numbersOf, linksOf, numbersTaken}
@@ -149,5 +150,5 @@ table =
 pub limits : given table ≡ said table
 unfolding knownUnit isqrt pattern rootOf flipOf _&_ _or_ all firstBroken h1 brokenRule refusalOf collideOf answerBytes signed numbersOf linksOf numbersTaken
     hexDigit digitValueOf digitOf hexAt hexLine byteOf hexOf callOf rootAnswer flippedAnswer flipAnswer callAnswer frameAnswer answeredOf lineAnswer told
-    toldLast Ieee.size Ieee.ofBits toBits Ieee.lt Ieee.le Ieee.neg Ieee.sub Ieee.div Ieee.add Ieee.mul Fields.table
+    toldLast Ieee.size Ieee.ofBits toBits Ieee.lt Ieee.le Ieee.neg Ieee.sub Ieee.div Ieee.add Ieee.mul Written.table
 limits = refl

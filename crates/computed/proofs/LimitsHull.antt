@@ -14,7 +14,7 @@ use Rattle.vector.specs.declared.Aabb.{Aabb}
 use Rattle.vector.specs.declared.Transform.{Transform}
 use Rattle.units.specs.Units.{knownUnit, unitsPerMeter}
 use Rattle.units.specs.Limits.{slop, speculative, huge, coordinateLimit, offsetLimit, edgeLimit}
-use Rattle.manifold.specs.Records.{emptyContact, emptyPolygon}
+use Rattle.manifold.specs.Records.{emptyContact}
 use Rattle.hull_links.specs.Tests.{_&_, _or_, implies, all}
 use Rattle.hull_links.specs.Walks.{has, until, ring}
 use Rattle.hull_links.specs.Rules.{h1, vertexInRange, edgeInRange, faceInRange, h2, twinsAt, h3, ringHolds, ringRight}
@@ -102,9 +102,8 @@ table =
     ∷ is (bits (huge 1)) 0x47c3_5000
     -- "Seven low bits of 47c35000 are 0"
     ∷ is (indexOf (huge 1)) 0
-    -- "A contact has 0 to 4 points; a clip buffer has 64 places."
+    -- "A contact has 0 to 4 points;"
     ∷ is (length (emptyContact .points)) 4
-    ∷ is (length (emptyPolygon .vertices)) 64
     -- "H1. V 4 to 128,"
     ∷ no (fits 3 12 4 34 55) ∷ yes (fits 4 12 4 34 56)
     ∷ yes (fits 128 12 4 406 180) ∷ no (fits 129 12 4 418 181)

@@ -3,4 +3,4 @@ use Prim.Native.Nat.{ℕ}
 
 -- It goes up by one with every change of a record, of a function's parameters, or of what a number in them means.
 abbrev pub abiNumber : ℕ
-abiNumber = 5
+abiNumber = 6

@@ -1,10 +1,10 @@
--- A contact on a face, by its cases: a polygon of candidates in, what is built out. Assumes nothing.
+-- A contact on a face, by its cases: candidates in, what is built out. Assumes nothing.
 use Prim.Native.Nat.{ℕ, _≤_, _<_}
-use mathlib.Core.Path.{_≡_, sym, ap, _∙_}
+use mathlib.Core.Path.{_≡_, sym, _∙_}
 use mathlib.Core.Bool.{Bool, true, false}
 use mathlib.Core.List.{List, map}
 use native.Mathlib.Omega.{arith}
-use lib.ListN.{length, length-map}
+use lib.ListN.{length}
 use lib.Ieee.{Float}
 use borrow.Author.Tests.{lt-ltb, le-ltb}
 use Rattle.vector.specs.declared.Vec3.{Vec3}
@@ -12,16 +12,13 @@ use Rattle.vector.specs.declared.Plane.{Plane}
 use Rattle.vector.specs.declared.Transform.{Transform}
 use Rattle.vector.specs.Awaited.{arbitraryPerpOf}
 use Rattle.manifold.specs.declared.ClipVertex.{ClipVertex}
-use Rattle.manifold.specs.declared.Polygon.{Polygon}
 use Rattle.units.specs.Limits.{speculative}
 use Rattle.manifold.specs.declared.Contact.{Contact}
-use Rattle.manifold.specs.Polygons.{cornersOf, polygonOf}
-use Rattle.manifold.proofs.Polygons.{corners-polygon, length-corners}
 use Rattle.hull_links.specs.declared.HullSize.{HullSize}
 use Rattle.hull.specs.Numbers.{planeAt}
-use Rattle.clip_corners.specs.declared.Clipped.{Clipped}
-use Rattle.clip_corners.specs.Results.{clippedOf}
-use Rattle.clip_corners.proofs.Results.{too-many, all-corners}
+use Rattle.clip_corners.specs.declared.Kept.{Kept}
+use Rattle.clip_corners.specs.Places.{cornersIn}
+use Rattle.clip_corners.specs.Standing.{Standing}
 use Rattle.clip.specs.Candidates.{candidatesOf}
 use Rattle.reduce_scores.specs.Images.{imageOf, leastSeparationOf, touchingOf}
 use Rattle.reduce_points.specs.Points.{contactOf}
@@ -46,35 +43,24 @@ module _ (unit : ℕ) (contact : Contact) (kind a b : ℕ) (l : List ClipVertex)
     unfolding onFace
     when-apart t = rw (le-ltb 64 (length l) h, t)
 
--- ---- the images of a polygon's corners
-pub images-few : (p points : Polygon) (normal : Vec3) → p .count ≤ 64 → p .count ≤ length (p .vertices)
-    → points ≡ polygonOf (map (imageOf normal) (cornersOf p)) → points .count ≤ 64
-images-few p points normal h long e =
-    let n : points .count ≡ length (cornersOf p) = ap (λ (x : Polygon). x .count) e ∙ length-map (cornersOf p) (imageOf normal) in
-    omega (arith, n, length-corners p long)
+-- ---- what the code builds of these candidates, which are so many: nothing, or the contact of the images
+module _ (unit : ℕ) (l : List ClipVertex) (k : ℕ) (sized : length l ≡ k) (most : k ≤ 64) (normal : Vec3) (face vertex : ℕ)
+    (least : Float) (le : least ≡ leastSeparationOf l) (far : Float) (is-far : far ≡ speculative unit) (t : Bool) (told : t ≡ touchingOf far k least) where
+  few : length l ≤ 64
+  few = omega (arith, sized)
 
--- ---- what the code builds of a polygon: nothing, or the contact of the images
-module _ (unit : ℕ) (p : Polygon) (normal : Vec3) (face vertex : ℕ) (h : p .count ≤ 64) (long : p .count ≤ length (p .vertices))
-    (least : Float) (le : least ≡ leastSeparationOf (cornersOf p)) (far : Float) (is-far : far ≡ speculative unit)
-    (t : Bool) (told : t ≡ touchingOf far (p .count) least) where
-  few : length (cornersOf p) ≤ 64
-  few = omega (arith, length-corners p long)
+  same : touchingOf (speculative unit) (length l) (leastSeparationOf l) ≡ t
+  same = rw (sized, ← le, ← is-far) (sym told)
 
-  same : touchingOf (speculative unit) (length (cornersOf p)) (leastSeparationOf (cornersOf p)) ≡ t
-  same = rw (length-corners p long, ← le, ← is-far) (sym told)
+  pub builds-none : t ≡ false → missed ≡ onFace unit (contactOnA unit normal l) 2 face vertex l
+  builds-none q = sym (when-apart unit (contactOnA unit normal l) 2 face vertex l few (same ∙ q))
 
-  pub builds-none : t ≡ false → missed ≡ onFace unit (contactOnA unit normal (cornersOf p)) 2 face vertex (cornersOf p)
-  builds-none q = sym (when-apart unit (contactOnA unit normal (cornersOf p)) 2 face vertex (cornersOf p) few (same ∙ q))
-
-  pub builds-one : t ≡ true → (points : Polygon) (direction : Vec3) (contact : Contact) → points ≡ polygonOf (map (imageOf normal) (cornersOf p))
-      → direction ≡ arbitraryPerpOf normal
-      → contact ≡ contactOf normal (pointsOf (firstPicks (speculative unit) direction normal (cornersOf points)) (cornersOf points))
-      → (r : Built) → r ≡ touchedOf contact least 2 face vertex → r ≡ onFace unit (contactOnA unit normal (cornersOf p)) 2 face vertex (cornersOf p)
+  pub builds-one : t ≡ true → (contact : Contact)
+      → (let images = map (imageOf normal) l in
+      contact ≡ contactOf normal (pointsOf (firstPicks (speculative unit) (arbitraryPerpOf normal) normal images) images))
+      → (r : Built) → r ≡ touchedOf contact least 2 face vertex → r ≡ onFace unit (contactOnA unit normal l) 2 face vertex l
   unfolding imagesOn picksOn contactOnA
-  builds-one q points direction contact e d k r is =
-      let all : cornersOf points ≡ map (imageOf normal) (cornersOf p) = ap cornersOf e ∙ corners-polygon (map (imageOf normal) (cornersOf p)) in
-      let this : contact ≡ contactOnA unit normal (cornersOf p) = k ∙ rw (all, d) in
-      is ∙ rw (this, le) (sym (when-touching unit (contactOnA unit normal (cornersOf p)) 2 face vertex (cornersOf p) few (same ∙ q)))
+  builds-one q contact this r is = is ∙ rw (this, le) (sym (when-touching unit (contactOnA unit normal l) 2 face vertex l few (same ∙ q)))
 
 -- ---- the three cases of `faceAOf`, as the code meets them
 module _ (s : HullSize) (n : List Float) (l : List ℕ) (t : HullSize) (m : List Float) (k : List ℕ) (x : Transform) (f v : ℕ) where
@@ -82,15 +68,20 @@ module _ (s : HullSize) (n : List Float) (l : List ℕ) (t : HullSize) (m : List
   unfolding faceAOf
   past-vertices h = rw (le-ltb v (t .vertices) h)
 
-  module _ (h : v < t .vertices) (c : Clipped) (is : c ≡ clippedOf (candidatesOf s n l t m k x f v)) where
-    pub cut-full : c .full ≡ true → refusedAt 6 ≡ faceAOf s n l t m k x f v
+  module _ (h : v < t .vertices) (places : List Float) (tags : List ℕ) (c : Kept) (is : Standing places tags (candidatesOf s n l t m k x f v) c) where
+    pub cut-full : 64 < c .count → refusedAt 6 ≡ faceAOf s n l t m k x f v
     unfolding faceAOf
     cut-full q =
         let all = candidatesOf s n l t m k x f v in
-        rw (lt-ltb v (t .vertices) h) (sym (when-full (s .unit) (contactOnA (s .unit) (planeAt s n f .normal) all) 2 f v all (too-many c all is q)))
+        let more : 64 < length all = rw (← is .counted) q in
+        rw (lt-ltb v (t .vertices) h) (sym (when-full (s .unit) (contactOnA (s .unit) (planeAt s n f .normal) all) 2 f v all more))
 
-    pub cut-whole : c .full ≡ false → (plane : Plane) → plane ≡ planeAt s n f
-        → (r : Built) → r ≡ onFace (s .unit) (contactOnA (s .unit) (plane .normal) (cornersOf (c .polygon))) 2 f v (cornersOf (c .polygon))
+    pub cut-whole : c .count ≤ 64 → (plane : Plane) → plane ≡ planeAt s n f
+        → (r : Built) → (let candidates = cornersIn places tags (c .from) (c .count) in
+        r ≡ onFace (s .unit) (contactOnA (s .unit) (plane .normal) candidates) 2 f v candidates)
         → r ≡ faceAOf s n l t m k x f v
     unfolding faceAOf
-    cut-whole q plane e r w = w ∙ rw (lt-ltb v (t .vertices) h, e, all-corners c (candidatesOf s n l t m k x f v) is q)
+    cut-whole q plane e r w =
+        let all = candidatesOf s n l t m k x f v in
+        let few : length all ≤ 64 = rw (← is .counted) q in
+        w ∙ rw (lt-ltb v (t .vertices) h, e, is .corners few)

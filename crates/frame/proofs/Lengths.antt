@@ -10,9 +10,9 @@ use Rattle.root.specs.Root.{rootOf}
 use Rattle.manifold.specs.declared.Answer.{Answer}
 use Rattle.manifold.specs.declared.pairs.Flipped.{Flipped}
 use Rattle.manifold.specs.Pairs.{flipOf}
-use Rattle.frame_encode.specs.Written.{Wrote}
+use Rattle.lists.specs.Written.{Wrote}
 use Rattle.frame_encode.specs.Bytes.{floatBytes, pairBytes, answerBytes, longestAnswer}
-use Rattle.frame_encode.proofs.Written.{wrote-same}
+use Rattle.lists.proofs.Written.{wrote-same}
 use Rattle.frame_decode.specs.Fields.{floatAt, pairAt}
 use Rattle.frame_hex.specs.Hex.{hexLine, bytesOf, hexOf}
 use Rattle.frame_hex.proofs.Bytes.{hex-length}

@@ -10,11 +10,11 @@ use borrow.Author.Tests.{lt-ltb, le-ltb, eq-eqb, ne-eqb}
 use Rattle.root.specs.Root.{rootOf}
 use Rattle.manifold.specs.declared.pairs.Flipped.{Flipped}
 use Rattle.manifold.specs.Pairs.{flipOf}
-use Rattle.frame_encode.specs.Written.{Wrote}
+use Rattle.lists.specs.Written.{Wrote}
 use Rattle.frame_encode.specs.Bytes.{floatBytes, pairBytes, answerBytes}
-use Rattle.frame_encode.proofs.Written.{front}
+use Rattle.lists.proofs.Written.{front}
 use Rattle.frame_decode.specs.Fields.{floatAt, pairAt}
-use Rattle.frame_decode.proofs.Tables.{table-length}
+use Rattle.lists.proofs.Tables.{table-length}
 use Rattle.frame_hex.specs.Hex.{hexLine, byteOf, bytesOf, hexOf}
 use Rattle.frame_call.specs.Requests.{callLength, callOf}
 use Rattle.frame.specs.Answers.{Answers}

@@ -14,9 +14,9 @@ use frame_decode::pair_at;
 use frame_decode::size_at;
 use frame_encode::LONGEST_ANSWER;
 use frame_encode::put_answer;
-use frame_encode::put_byte;
 use frame_encode::put_float;
 use frame_encode::put_pair;
+use lists::write_byte;
 use manifold::pairs::Flipped;
 use manifold::pairs::flip_pair;
 use root::root;
@@ -26,8 +26,8 @@ fn put_fault(answer: &mut [u8], number: u8) -> usize
     requires { ⌜ longestAnswer ≤ length (now answer) ⌝ }
     ensures { λ r. ⌜ Answers (faultOf number) (now (answer .entry)) r (now (answer .exit)) ⌝ }
 {
-    put_byte(answer, 0, 0xff);
-    put_byte(answer, 1, number);
+    write_byte(answer, 0, 0xff);
+    write_byte(answer, 1, number);
     2
 }
 
@@ -39,7 +39,7 @@ fn root_answer(frame: &[u8], answer: &mut [u8]) -> usize
     if frame.len() != 5 {
         return put_fault(answer, 0x23);
     }
-    put_byte(answer, 0, 0x90);
+    write_byte(answer, 0, 0x90);
     let x = root(float_at(frame, 1));
     put_float(answer, 1, x);
     5
@@ -53,7 +53,7 @@ fn flipped_answer(flipped: Flipped, answer: &mut [u8]) -> usize
     if flipped.status != 0 {
         return put_fault(answer, 0x08);
     }
-    put_byte(answer, 0, 0x91);
+    write_byte(answer, 0, 0x91);
     let pair = flipped.pair;
     put_pair(answer, 1, pair);
     5

@@ -24,7 +24,7 @@ use Rattle.hull.specs.Rule8.{brokenRule}
 use Rattle.collide_refusals.specs.Refusals.{refusalOf}
 use Rattle.collide_outcome.specs.Answers.{accepted, refusedOf}
 use Rattle.collide.specs.Call.{collideOf}
-use Rattle.frame_encode.proofs.Written.{front, wrote-length}
+use Rattle.lists.proofs.Written.{front, wrote-length}
 use Rattle.frame_decode.specs.Fields.{sizeAt, transformAt, capacityAt, cacheAt}
 use Rattle.frame_decode.specs.Hulls.{linksFrom, planesAt, hullLength, numbersTaken, numbersOf, linksOf, Taken}
 use Rattle.frame_decode.proofs.Takes.{taken-all, taken-length, taken-none}

@@ -8,11 +8,11 @@ use lib.Ieee.{Float}
 use borrow.Author.Tests.{le-leb, lt-leb}
 use Rattle.hull_links.specs.declared.HullSize.{HullSize}
 use Rattle.hull_links.specs.Links.{planesFrom, numberCount}
-use Rattle.frame_encode.specs.Written.{Wrote}
-use Rattle.frame_encode.proofs.Written.{none, then, wrote-same}
+use Rattle.lists.specs.Written.{Wrote}
+use Rattle.lists.proofs.Written.{none, then, wrote-same}
 use Rattle.frame_decode.specs.Fields.{floatAt, floatsAt}
 use Rattle.frame_decode.specs.Hulls.{numbersOf, planesAt, numbersTaken, Taken}
-use Rattle.frame_decode.proofs.Tables.{table-length}
+use Rattle.lists.proofs.Tables.{table-length}
 
 module _ (f : List ℕ) (at : ℕ) (s : HullSize) where
   pub numbers-length : length (numbersOf f at s) ≡ numberCount s

@@ -1,8 +1,8 @@
 -- The values that stand in a frame, by the place where they begin: "Numbers have the high byte first; capacity is signed, and the cache's fields
 -- stand in the record's order." A byte past the end counts as 0. Definitions only.
-use Prim.Native.Nat.{ℕ, zero, suc, _+_, _*_, _-_}
+use Prim.Native.Nat.{ℕ, _+_, _*_, _-_}
 use mathlib.Core.Bool.{cond}
-use mathlib.Core.List.{List, [], _∷_}
+use mathlib.Core.List.{List}
 use lib.Dec.{ltb}
 use lib.ListN.{getD}
 use lib.IntN.{ℤ, pos, negsuc}
@@ -12,6 +12,7 @@ use Rattle.vector.specs.declared.Transform.{Transform}
 use Rattle.manifold.specs.declared.FeaturePair.{FeaturePair}
 use Rattle.manifold.specs.declared.SatCache.{SatCache}
 use Rattle.hull_links.specs.declared.HullSize.{HullSize}
+use Rattle.lists.specs.Written.{table}
 
 abbrev pub byteAt : List ℕ → ℕ → ℕ
 byteAt f i = getD f i 0
@@ -63,11 +64,6 @@ sizeAt f at = record {
   «half_edges» = number16At f (at + 4);
   faces = number16At f (at + 6);
 }
-
--- g 0, g 1, .., g (n - 1)
-unfoldable pub table : {A : Type 0} → (ℕ → A) → ℕ → List A
-table g zero = []
-table g (suc n) = g 0 ∷ table (λ i. g (suc i)) n
 
 -- n floats, one behind the other
 abbrev pub floatsAt : List ℕ → ℕ → ℕ → List Float

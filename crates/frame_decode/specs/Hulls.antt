@@ -9,7 +9,7 @@ use lib.ListN.{length, take, drop}
 use lib.Ieee.{Float}
 use Rattle.hull_links.specs.declared.HullSize.{HullSize}
 use Rattle.hull_links.specs.Links.{planesFrom, linkCount, numberCount}
-use Rattle.frame_encode.specs.Written.{Wrote}
+use Rattle.lists.specs.Written.{Wrote}
 use Rattle.frame_decode.specs.Fields.{floatsAt}
 
 -- where the links of the hull that begins at `at` begin, where its planes do, and how long it is "by its V, H, F as sent"

@@ -3,7 +3,7 @@ ghost use mathlib.Core.Path.{_≡_};
 ghost use Prim.Native.Nat.{_+_, _*_, _≤_};
 ghost use lib.ListN.{length};
 ghost use Rattle.hull_links.specs.Links.{linkCount};
-ghost use Rattle.frame_encode.specs.Written.{Wrote};
+ghost use Rattle.lists.specs.Written.{Wrote};
 ghost use Rattle.frame_decode.specs.Fields.{floatsAt};
 ghost use Rattle.frame_decode.specs.Hulls.{Sent, linksFrom, planesAt, hullLength, numbersTaken, Taken};
 use crate::float_at;

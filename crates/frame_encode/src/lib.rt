@@ -1,11 +1,11 @@
 // Values written as bytes into a slice that is lent, the high byte first, as document 01's section "The hex program" has them. What each one's bytes
 // are is in specs/Bytes.antt.
 ghost use Prim.Native.Nat.{_+_, _≤_};
-ghost use mathlib.Core.List.{[], _∷_};
 ghost use lib.ListN.{length};
-ghost use Rattle.frame_encode.specs.Written.{Wrote};
+ghost use Rattle.lists.specs.Written.{Wrote};
 ghost use Rattle.frame_encode.specs.Bytes.{bytes32, floatBytes, vecBytes, pairBytes, pointBytes, pointsBytes, cacheBytes, headBytes, longestAnswer};
 ghost use Rattle.frame_encode.specs.Bytes.{placesBytes, answerBytes};
+use lists::write_byte;
 use manifold::Answer;
 use manifold::Contact;
 use manifold::FeaturePair;
@@ -17,21 +17,14 @@ use vector::Vec3;
 // How many bytes the longest answer has: that to a call.
 pub const LONGEST_ANSWER: usize = 108;
 
-pub fn put_byte(out: &mut [u8], at: usize, b: u8)
-    requires { ⌜ at + 1 ≤ length (now out) ⌝ }
-    ensures { λ _. ⌜ Wrote (now (out .entry)) at (b ∷ []) (now (out .exit)) ⌝ }
-{
-    out[at] = b;
-}
-
 pub fn put_number(out: &mut [u8], at: usize, x: u32)
     requires { ⌜ at + 4 ≤ length (now out) ⌝ }
     ensures { λ _. ⌜ Wrote (now (out .entry)) at (bytes32 x) (now (out .exit)) ⌝ }
 {
-    put_byte(out, at, (x / 16777216) as u8);
-    put_byte(out, at + 1, (x / 65536 % 256) as u8);
-    put_byte(out, at + 2, (x / 256 % 256) as u8);
-    put_byte(out, at + 3, (x % 256) as u8);
+    write_byte(out, at, (x / 16777216) as u8);
+    write_byte(out, at + 1, (x / 65536 % 256) as u8);
+    write_byte(out, at + 2, (x / 256 % 256) as u8);
+    write_byte(out, at + 3, (x % 256) as u8);
 }
 
 // A NaN is 7fc00000.
@@ -56,10 +49,10 @@ pub fn put_pair(out: &mut [u8], at: usize, p: FeaturePair)
     requires { ⌜ at + 4 ≤ length (now out) ⌝ }
     ensures { λ _. ⌜ Wrote (now (out .entry)) at (pairBytes p) (now (out .exit)) ⌝ }
 {
-    put_byte(out, at, p.owner1);
-    put_byte(out, at + 1, p.index1);
-    put_byte(out, at + 2, p.owner2);
-    put_byte(out, at + 3, p.index2);
+    write_byte(out, at, p.owner1);
+    write_byte(out, at + 1, p.index1);
+    write_byte(out, at + 2, p.owner2);
+    write_byte(out, at + 3, p.index2);
 }
 
 pub fn put_point(out: &mut [u8], at: usize, p: Point)
@@ -78,10 +71,10 @@ pub fn put_cache(out: &mut [u8], at: usize, c: SatCache)
     ensures { λ _. ⌜ Wrote (now (out .entry)) at (cacheBytes c) (now (out .exit)) ⌝ }
 {
     put_number(out, at, c.separation);
-    put_byte(out, at + 4, c.kind);
-    put_byte(out, at + 5, c.index_a);
-    put_byte(out, at + 6, c.index_b);
-    put_byte(out, at + 7, c.hit);
+    write_byte(out, at + 4, c.kind);
+    write_byte(out, at + 5, c.index_a);
+    write_byte(out, at + 6, c.index_b);
+    write_byte(out, at + 7, c.hit);
 }
 
 // 92, the status, the cache, the count and the normal.
@@ -89,11 +82,11 @@ fn put_head(out: &mut [u8], a: Answer)
     requires { ⌜ longestAnswer ≤ length (now out) ⌝ }
     ensures { λ _. ⌜ Wrote (now (out .entry)) 0 (headBytes a) (now (out .exit)) ⌝ }
 {
-    put_byte(out, 0, 0x92);
-    put_byte(out, 1, a.outcome.status);
+    write_byte(out, 0, 0x92);
+    write_byte(out, 1, a.outcome.status);
     let cache = a.cache;
     put_cache(out, 2, cache);
-    put_byte(out, 10, a.outcome.contact.count);
+    write_byte(out, 10, a.outcome.contact.count);
     let normal = a.outcome.contact.normal;
     put_vec(out, 11, normal);
 }
@@ -115,15 +108,15 @@ fn put_points(out: &mut [u8], k: Contact)
 }
 
 // Which candidate each of the four points came from.
-fn put_places(out: &mut [u8], k: Contact)
-    requires { ⌜ longestAnswer ≤ length (now out) ⌝ }
-    ensures { λ _. ⌜ Wrote (now (out .entry)) 103 (placesBytes k) (now (out .exit)) ⌝ }
+pub fn put_places(out: &mut [u8], at: usize, k: Contact)
+    requires { ⌜ at + 4 ≤ length (now out) ⌝ }
+    ensures { λ _. ⌜ Wrote (now (out .entry)) at (placesBytes k) (now (out .exit)) ⌝ }
 {
     let points = k.points;
-    put_byte(out, 103, points[0].place);
-    put_byte(out, 104, points[1].place);
-    put_byte(out, 105, points[2].place);
-    put_byte(out, 106, points[3].place);
+    write_byte(out, at, points[0].place);
+    write_byte(out, at + 1, points[1].place);
+    write_byte(out, at + 2, points[2].place);
+    write_byte(out, at + 3, points[3].place);
 }
 
 // The answer to a call: the head, the points, their candidates' places, and last the mark of a retired type.
@@ -134,6 +127,6 @@ pub fn put_answer(out: &mut [u8], a: Answer)
     put_head(out, a);
     let contact = a.outcome.contact;
     put_points(out, contact);
-    put_places(out, contact);
-    put_byte(out, 107, a.outcome.retired);
+    put_places(out, 103, contact);
+    write_byte(out, 107, a.outcome.retired);
 }

@@ -7,8 +7,8 @@ use native.Mathlib.Nat.{zero-add}
 use native.Mathlib.Omega.{arith}
 use lib.ListN.{length, getD, take}
 use lib.Seq.{take-suc, take-length, length-take-le}
-use Rattle.frame_encode.specs.Written.{Wrote}
-use Rattle.frame_encode.proofs.Written.{none, then, wrote-same}
+use Rattle.lists.specs.Written.{Wrote}
+use Rattle.lists.proofs.Written.{none, then, wrote-same}
 use Rattle.frame_hex.specs.Hex.{digitOf, hexOf}
 
 -- a byte is two characters

@@ -5,7 +5,7 @@ use mathlib.Core.List.{List, [], _∷_}
 use lib.Dec.{eqb, leb, ltb}
 use lib.ListN.{length, getD}
 use Rattle.hull_links.specs.Tests.{_&_, _or_, all}
-use Rattle.frame_decode.specs.Fields.{table}
+use Rattle.lists.specs.Written.{table}
 
 -- 0 to 9 have the codes 48 to 57, a to f the codes 97 to 102
 unfoldable pub hexDigit : ℕ → Bool

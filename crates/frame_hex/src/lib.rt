@@ -4,9 +4,9 @@ ghost use mathlib.Core.Bool.{true, cond};
 ghost use mathlib.Core.Path.{_≡_};
 ghost use Prim.Native.Nat.{_*_, _/_, _%_, _≤_, _<_};
 ghost use lib.ListN.{length};
-ghost use Rattle.frame_encode.specs.Written.{Wrote};
+ghost use Rattle.lists.specs.Written.{Wrote};
 ghost use Rattle.frame_hex.specs.Hex.{hexDigit, digitValueOf, digitOf, hexLine, byteOf, bytesOf, hexOf};
-use frame_encode::put_byte;
+use lists::write_byte;
 
 fn hex_digit(c: u8) -> bool
     ensures { λ r. ⌜ r ≡ hexDigit c ⌝ }
@@ -111,8 +111,8 @@ pub fn put_hex(bytes: &[u8], line: &mut [u8])
     let mut i = 0;
     while i < bytes.len() {
         let b = bytes[i];
-        put_byte(line, 2 * i, high_digit(b));
-        put_byte(line, 2 * i + 1, low_digit(b));
+        write_byte(line, 2 * i, high_digit(b));
+        write_byte(line, 2 * i + 1, low_digit(b));
         i += 1;
     }
 }

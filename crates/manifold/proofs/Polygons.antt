@@ -1,16 +1,13 @@
--- Loops that go over a polygon's corners, and loops that fill one. Assumes nothing.
-use Prim.Native.Nat.{ℕ, zero, suc, _+_, _-_, _≤_, _<_}
-use mathlib.Core.Path.{_≡_, refl, sym, ap, _∙_, subst}
-use mathlib.Core.List.{List, [], _∷_, _++_, append-assoc}
+-- Loops that go place by place, and the first 64 of a list. Assumes nothing.
+use Prim.Native.Nat.{ℕ, zero, suc, _+_, _≤_}
+use mathlib.Core.Path.{_≡_, refl, ap, _∙_}
+use mathlib.Core.List.{List}
 use native.Mathlib.Omega.{arith}
 use native.Mathlib.Decide.{decLe}
 use native.Mathlib.Numerals.{add-one}
-use lib.ListN.{length, take, set, getD, replicate, length-append}
-use lib.Seq.{set-at, take-at, take-suc, length-take-le, take-all}
-use Rattle.manifold.specs.declared.ClipVertex.{ClipVertex}
-use Rattle.manifold.specs.declared.Polygon.{Polygon}
-use Rattle.manifold.specs.Records.{zeroVertex}
-use Rattle.manifold.specs.Polygons.{cornersOf, clipPlacesOf, polygonOf, turns}
+use lib.ListN.{length, take}
+use lib.Seq.{length-take-le, take-all}
+use Rattle.manifold.specs.Polygons.{turns}
 
 -- ---- turns: none, and one more
 pub no-turn : {S : Type 0} (f : S → ℕ → S) (s : S) → s ≡ turns f s 0
@@ -28,34 +25,7 @@ unfolding turns
 turns-keep f P keep s p zero = p
 turns-keep f P keep s p (suc n) = keep (turns f s n) n (turns-keep f P keep s p n)
 
--- ---- the corners of a polygon
-pub corners-polygon : (l : List ClipVertex) → cornersOf (polygonOf l) ≡ l
-corners-polygon l = take-at l (replicate (64 - length l) zeroVertex) (length l) refl
-
-pub length-corners : (p : Polygon) → p .count ≤ length (p .vertices) → length (cornersOf p) ≡ p .count
-length-corners p h = length-take-le (p .count) (p .vertices) h
-
--- ---- filling: 64 places with the corners so far, and the next one put behind them
-pub put-corner : (l : List ClipVertex) (v : ClipVertex) → length l < 64 → set (clipPlacesOf l) (length l) v ≡ clipPlacesOf (l ++ (v ∷ []))
-put-corner l v h =
-    let e : 64 - length l ≡ suc (63 - length l) = omega arith in
-    let n : length (l ++ (v ∷ [])) ≡ length l + 1 = length-append l (v ∷ []) in
-    let g : 64 - length (l ++ (v ∷ [])) ≡ 63 - length l = omega (arith, n) in
-    rw (e, g) (set-at l zeroVertex (replicate (63 - length l) zeroVertex) v (length l) refl
-    ∙ sym (append-assoc l (v ∷ []) (replicate (63 - length l) zeroVertex)))
-
-pub length-snoc : (l : List ClipVertex) (v : ClipVertex) → length (l ++ (v ∷ [])) ≡ length l + 1
-length-snoc l v = length-append l (v ∷ [])
-
--- a loop that fills a polygon with the elements of a list in turn: the first i stand in it
-pub fills : (l : List ClipVertex) (i : ℕ) (d v : ClipVertex) (out : List ClipVertex) → i < length l → i < 64 → v ≡ getD l i d → out ≡ clipPlacesOf (take i l)
-    → set out i v ≡ clipPlacesOf (take (i + 1) l)
-fills l i d v out h k q p =
-    let n : length (take i l) ≡ i = length-take-le i l (omega arith) in
-    let s : take (i + 1) l ≡ take i l ++ (v ∷ []) = rw (add-one i, q) (take-suc l i d h) in
-    rw (p, s) (subst (λ (x : ℕ). set (clipPlacesOf (take i l)) x v ≡ clipPlacesOf (take i l ++ (v ∷ []))) n (put-corner (take i l) v (omega (arith, n))))
-
--- no more than 64 are among the first 64
+-- ---- no more than 64 are among the first 64
 pub first-most : {A : Type 0} (l : List A) → length (take 64 l) ≤ 64
 first-most l = by (decLe (length l) 64)
   where

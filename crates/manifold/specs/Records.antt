@@ -8,7 +8,6 @@ use Rattle.vector.specs.Arithmetic.{zeroVec}
 use Rattle.vector.specs.Shape.{pastVec}
 use Rattle.manifold.specs.declared.FeaturePair.{FeaturePair}
 use Rattle.manifold.specs.declared.ClipVertex.{ClipVertex}
-use Rattle.manifold.specs.declared.Polygon.{Polygon}
 use Rattle.manifold.specs.declared.Point.{Point}
 use Rattle.manifold.specs.declared.Contact.{Contact}
 use Rattle.manifold.specs.declared.SatCache.{SatCache}
@@ -22,10 +21,6 @@ zeroVertex = record { position = zeroVec; separation = float 0; pair = zeroPair 
 -- no point
 abbrev pub unusedPoint : Point
 unusedPoint = record { position = zeroVec; separation = float 0; pair = zeroPair; place = 255 }
-
--- no corners, 64 zero places
-abbrev pub emptyPolygon : Polygon
-emptyPolygon = record { vertices = replicate 64 zeroVertex; count = 0 }
 
 -- no points, a zero normal
 abbrev pub emptyContact : Contact

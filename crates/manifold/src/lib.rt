@@ -6,9 +6,7 @@ pub mod records;
 
 use vector::Vec3;
 
-// The most vertices of a clipped polygon, and the most points of a contact.
-pub const MAX_CLIP_POINTS: usize = 64;
-
+// The most points of a contact.
 pub const MAX_MANIFOLD_POINTS: usize = 4;
 
 // The axis that the last call found: how far apart, its kind and what it joins, and whether it served again.
@@ -37,13 +35,6 @@ pub struct ClipVertex {
     pub position: Vec3,
     pub separation: f32,
     pub pair: FeaturePair,
-}
-
-// At most 64 corners; the places at and above the count are zero.
-#[repr(C)]
-pub struct Polygon {
-    pub vertices: [ClipVertex; MAX_CLIP_POINTS],
-    pub count: usize,
 }
 
 // A point of a contact. `place` says which candidate it came from: the candidate's place in the list as it stood before any pick, 0 for the one

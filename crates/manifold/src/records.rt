@@ -1,40 +1,11 @@
 // The records with nothing in them.
 ghost use mathlib.Core.Path.{_≡_};
-ghost use Rattle.manifold.specs.Records.{zeroVertex, unusedPoint, emptyPolygon, emptyContact, emptyCache, hitSet};
-use crate::ClipVertex;
+ghost use Rattle.manifold.specs.Records.{unusedPoint, emptyContact, emptyCache, hitSet};
 use crate::Contact;
 use crate::FeaturePair;
 use crate::Point;
-use crate::Polygon;
 use crate::SatCache;
 use vector::Vec3;
-
-pub fn zero_vertex() -> ClipVertex
-    ensures { λ r. ⌜ r ≡ zeroVertex ⌝ }
-{
-    ClipVertex {
-        position: Vec3 {
-            x: 0.0,
-            y: 0.0,
-            z: 0.0,
-        },
-        separation: 0.0,
-        pair: FeaturePair {
-            owner1: 0,
-            index1: 0,
-            owner2: 0,
-            index2: 0,
-        },
-    }
-}
-
-pub fn empty_polygon() -> Polygon
-    ensures { λ r. ⌜ r ≡ emptyPolygon ⌝ }
-{
-    let zero = zero_vertex();
-    let vertices = [zero; 64];
-    Polygon { vertices, count: 0 }
-}
 
 // No point: all zero, and a place that no candidate has.
 pub fn unused_point() -> Point

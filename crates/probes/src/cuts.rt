@@ -1,22 +1,21 @@
 // Doors to the cuts and the picks.
-ghost use mathlib.Core.List.{map};
 ghost use mathlib.Core.Path.{_≡_};
 ghost use Prim.Native.Nat.{_*_, _≤_, _<_};
+ghost use Rattle.vector.specs.Awaited.{arbitraryPerpOf};
 ghost use Rattle.units.specs.Limits.{speculative};
-ghost use Rattle.manifold.specs.Polygons.{cornersOf, polygonOf};
 ghost use Rattle.hull.specs.Accepted.{Accepted};
 ghost use Rattle.clip_cut.specs.Cut.{cutOf};
-ghost use Rattle.clip_corners.specs.Places.{Roomy, SideBySide, cornersIn, Laid};
-ghost use Rattle.clip_corners.specs.Results.{clippedOf};
-ghost use Rattle.reduce_scores.specs.Images.{imageOf, leastSeparationOf, touchingOf};
+ghost use Rattle.clip_corners.specs.Places.{Roomy, SideBySide, cornerIn, cornersIn, Laid};
+ghost use Rattle.clip_corners.specs.Standing.{Standing};
+ghost use Rattle.reduce_scores.specs.Images.{imageOf, imagesIn, leastSeparationOf, touchingOf};
 ghost use Rattle.reduce_points.specs.Points.{contactOf};
 ghost use Rattle.reduce.specs.Reduce.{firstPicks, pointsOf};
 ghost use Rattle.clip_incident.specs.Incident.{incidentFaceOf};
 ghost use Rattle.clip.specs.Candidates.{builtOf, candidatesOf};
-use clip_corners::Clipped;
+use clip_corners::Kept;
 use hull_links::HullSize;
+use manifold::ClipVertex;
 use manifold::Contact;
-use manifold::Polygon;
 use vector::Plane;
 use vector::Transform;
 use vector::Vec3;
@@ -40,19 +39,19 @@ pub extern "C" fn probe_clip_polygon(
 }
 
 #[no_mangle]
-pub extern "C" fn probe_images(candidates: Polygon, normal: Vec3) -> Polygon
-    requires { ⌜ candidates .count ≤ 64 ⌝ }
-    ensures { λ r. ⌜ r ≡ polygonOf (map (imageOf normal) (cornersOf candidates)) ⌝ }
+pub extern "C" fn probe_image_at(places: &[f32], tags: &[u8], p: usize, normal: Vec3) -> ClipVertex
+    requires { ⌜ Roomy (now places) (now tags) × (p < 128) ⌝ }
+    ensures { λ r. ⌜ r ≡ imageOf normal (cornerIn (now (places .entry)) (now (tags .entry)) p) ⌝ }
 {
-    reduce_scores::images::images(candidates, normal)
+    reduce_scores::images::image_at(places, tags, p, normal)
 }
 
 #[no_mangle]
-pub extern "C" fn probe_least_separation(candidates: Polygon) -> f32
-    requires { ⌜ candidates .count ≤ 64 ⌝ }
-    ensures { λ r. ⌜ r ≡ leastSeparationOf (cornersOf candidates) ⌝ }
+pub extern "C" fn probe_least_separation(places: &[f32], tags: &[u8], from: usize, n: usize) -> f32
+    requires { ⌜ Roomy (now places) (now tags) × (from ≤ 64) × (n ≤ 64) ⌝ }
+    ensures { λ r. ⌜ r ≡ leastSeparationOf (cornersIn (now (places .entry)) (now (tags .entry)) from n) ⌝ }
 {
-    reduce_scores::images::least_separation(candidates)
+    reduce_scores::images::least_separation(places, tags, from, n)
 }
 
 #[no_mangle]
@@ -65,32 +64,38 @@ pub extern "C" fn probe_touching(unit: usize, count: usize, least: f32) -> bool
 #[no_mangle]
 pub extern "C" fn probe_reduce_manifold_points(
     unit: usize,
-    images: Polygon,
+    places: &[f32],
+    tags: &[u8],
+    from: usize,
+    n: usize,
     normal: Vec3,
-    direction: Vec3,
 ) -> Contact
-    requires { ⌜ images .count ≤ 64 ⌝ }
-    ensures { λ r. ⌜ r ≡ contactOf normal (pointsOf (firstPicks (speculative unit) direction normal (cornersOf images)) (cornersOf images)) ⌝ }
+    requires { ⌜ Roomy (now places) (now tags) × (from ≤ 64) × (n ≤ 64) ⌝ }
+    ensures { λ r. let images = imagesIn normal (now (places .entry)) (now (tags .entry)) from n in
+        ⌜ r ≡ contactOf normal (pointsOf (firstPicks (speculative unit) (arbitraryPerpOf normal) normal images) images) ⌝ }
 {
-    reduce::reduce_manifold_points(images, normal, direction, unit)
+    reduce::reduce_manifold_points(places, tags, from, n, normal, unit)
 }
 
-// So many reductions of the same images, and how many points they leave together.
+// So many reductions of the same candidates, and how many points they leave together.
 #[no_mangle]
 pub extern "C" fn probe_reduce_rounds(
     unit: usize,
-    images: Polygon,
+    places: &[f32],
+    tags: &[u8],
+    from: usize,
+    n: usize,
     normal: Vec3,
-    direction: Vec3,
     rounds: usize,
 ) -> usize
-    requires { ⌜ (images .count ≤ 64) × (rounds ≤ 65536) ⌝ }
-    ensures { λ r. ⌜ r ≡ rounds * contactOf normal (pointsOf (firstPicks (speculative unit) direction normal (cornersOf images)) (cornersOf images)) .count ⌝ }
+    requires { ⌜ Roomy (now places) (now tags) × (from ≤ 64) × (n ≤ 64) × (rounds ≤ 65536) ⌝ }
+    ensures { λ r. let images = imagesIn normal (now (places .entry)) (now (tags .entry)) from n in
+        ⌜ r ≡ rounds * contactOf normal (pointsOf (firstPicks (speculative unit) (arbitraryPerpOf normal) normal images) images) .count ⌝ }
 {
     let mut total = 0;
     let mut i = 0;
     while i < rounds {
-        let contact = reduce::reduce_manifold_points(images, normal, direction, unit);
+        let contact = reduce::reduce_manifold_points(places, tags, from, n, normal, unit);
         total += contact.count as usize;
         i += 1;
     }
@@ -149,11 +154,13 @@ pub extern "C" fn probe_candidates(
     transform: Transform,
     face: usize,
     vertex: usize,
-) -> Clipped
+    places: &mut [f32],
+    tags: &mut [u8],
+) -> Kept
     requires { ⌜ Accepted «size_a» (now «numbers_a») (now «links_a») × Accepted «size_b» (now «numbers_b») (now «links_b»)
-        × (face < «size_a» .faces) × (vertex < «size_b» .vertices) ⌝ }
-    ensures { λ r. ⌜ r ≡ clippedOf (candidatesOf «size_a» (now («numbers_a» .entry)) (now («links_a» .entry)) «size_b» (now («numbers_b» .entry))
-        (now («links_b» .entry)) transform face vertex) ⌝ }
+        × (face < «size_a» .faces) × (vertex < «size_b» .vertices) × Roomy (now places) (now tags) ⌝ }
+    ensures { λ r. ⌜ Standing (now (places .exit)) (now (tags .exit)) (candidatesOf «size_a» (now («numbers_a» .entry)) (now («links_a» .entry))
+        «size_b» (now («numbers_b» .entry)) (now («links_b» .entry)) transform face vertex) r ⌝ }
 {
     clip::candidates(
         numbers_a,
@@ -165,5 +172,7 @@ pub extern "C" fn probe_candidates(
         transform,
         face,
         vertex,
+        places,
+        tags,
     )
 }

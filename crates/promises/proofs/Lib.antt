@@ -13,3 +13,4 @@ pub mod Separations
 pub mod Retired
 pub mod Incident
 pub mod Units
+pub mod Stepping

@@ -6,3 +6,4 @@ pub mod Separations
 pub mod Retired
 pub mod Incident
 pub mod Units
+pub mod Stepping

@@ -5,7 +5,7 @@ use mathlib.Core.Bool.{Bool, true, false, cond, false≢true}
 use mathlib.Core.Logic.{_⊎_, inl, inr, ⊎-elim}
 use mathlib.Core.List.{List}
 use native.Mathlib.Omega.{arith}
-use lib.ListN.{length, take, getD}
+use lib.ListN.{length, getD}
 use lib.Ieee.{Float, lt, le, neg}
 use Rattle.vector.specs.declared.Vec3.{Vec3}
 use Rattle.vector.specs.Rounded.{float, _⊗_}
@@ -38,16 +38,16 @@ fourthTurn normal t best i v = betterPickOf best i (outsideOf normal t (v .posit
 abbrev pub nothing : Float → Best
 nothing score = record { found = false; index = 0; score = score }
 
--- ---- the loop: over what is left of the first n of an array, each read at its place
-module _ (f : Turn) (start : Best) (xs : List ClipVertex) (n : ℕ) (long : n ≤ length xs) (js : List ℕ) where
-  pub search-turn : (s next : Best) (i place : ℕ) → i < n - length js → place ≡ stands n js i → s ≡ over f start (left pastVertex (take n xs) js) i
-      → next ≡ f s i (getD xs place pastVertex) → next ≡ over f start (left pastVertex (take n xs) js) (i + 1)
-  search-turn s next i place h e p q =
-      turn-over f start (left pastVertex (take n xs) js) s next i (getD xs place pastVertex) p (read-left pastVertex xs n long js i place h e) q
+-- ---- the loop: over what is left of n images, each read at its place
+module _ (f : Turn) (start : Best) (l : List ClipVertex) (n : ℕ) (sized : length l ≡ n) (js : List ℕ) where
+  pub search-turn : (s next : Best) (i place : ℕ) (v : ClipVertex) → i < n - length js → place ≡ stands n js i → v ≡ getD l place pastVertex
+      → s ≡ over f start (left pastVertex l js) i → next ≡ f s i v → next ≡ over f start (left pastVertex l js) (i + 1)
+  search-turn s next i place v h e q p =
+      turn-over f start (left pastVertex l js) s next i v p (q ∙ read-left pastVertex l n sized js i place h e)
 
-  pub search-end : (s : Best) (i : ℕ) → i ≤ n - length js → n - length js ≤ i → s ≡ over f start (left pastVertex (take n xs) js) i
-      → s ≡ over f start (left pastVertex (take n xs) js) (length (left pastVertex (take n xs) js))
-  search-end s i h k p = end-over f start (left pastVertex (take n xs) js) s i (n - length js) (length-left-of pastVertex xs n js long) h k p
+  pub search-end : (s : Best) (i : ℕ) → i ≤ n - length js → n - length js ≤ i → s ≡ over f start (left pastVertex l js) i
+      → s ≡ over f start (left pastVertex l js) (length (left pastVertex l js))
+  search-end s i = end-over f start (left pastVertex l js) s i (n - length js) (length-left-of pastVertex l n sized js)
 
 -- the end of the third and of the fourth search, whose turns read what a call gave
 pub third-end : (tolerance : Float) (normal a b d : Vec3) (l : List ClipVertex) (s : Best) → d ≡ subOf b a → s ≡ over (thirdTurn normal a d)

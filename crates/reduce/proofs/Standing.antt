@@ -1,10 +1,10 @@
 -- Lists from which elements are taken one after another, each place filled by the last: what stands where. Assumes nothing.
-use Prim.Native.Nat.{ℕ, _-_, _≤_, _<_}
-use mathlib.Core.Path.{_≡_, refl, sym, ap, _∙_}
+use Prim.Native.Nat.{ℕ, _-_, _<_}
+use mathlib.Core.Path.{_≡_, refl, sym, _∙_}
 use mathlib.Core.List.{List, [], _∷_}
 use native.Mathlib.Omega.{arith}
 use lib.Dec.{eqb}
-use lib.ListN.{length, take, set, getD, length-set}
+use lib.ListN.{length, set, getD, length-set}
 use lib.Seq.{length-take-le, getD-take, getD-set-same, getD-set-other}
 use borrow.Author.Tests.{eqb-true, eqb-false}
 use Rattle.manifold.specs.declared.ClipVertex.{ClipVertex}
@@ -73,30 +73,23 @@ module _ {A : Type 0} (d : A) where
       let low : stands (length l - 1) js i < length l - 1 = stands-low (length l - 1) js i (omega arith) in
       at-left (without d l j) js i (omega (arith, n)) ∙ rw n (at-without d l j (stands (length l - 1) js i) low)
 
--- ---- the first n of an array: what is left of them at i is read at its place, which lies below n
-module _ {A : Type 0} (d : A) (xs : List A) (n : ℕ) (long : n ≤ length xs) (js : List ℕ) (i place : ℕ) (h : i < n - length js)
-    (e : place ≡ stands n js i) where
-  pub place-low : place < n
-  place-low = rw e (stands-low n js i h)
+-- ---- what is left of n elements at i is read at its place, which lies below n
+pub place-low : (n : ℕ) (js : List ℕ) (i place : ℕ) → i < n - length js → place ≡ stands n js i → place < n
+place-low n js i place h e = rw e (stands-low n js i h)
 
-  pub read-left : getD xs place d ≡ getD (left d (take n xs) js) i d
-  read-left =
-      let m : length (take n xs) ≡ n = length-take-le n xs long in
-      sym (getD-take n xs place d place-low) ∙ rw e (sym (rw m at (at-left d (take n xs) js i (omega (arith, m)))))
+pub length-left-of : {A : Type 0} (d : A) (l : List A) (n : ℕ) → length l ≡ n → (js : List ℕ) → length (left d l js) ≡ n - length js
+length-left-of d l n m js = omega (arith, m, length-left d l js)
+
+pub read-left : {A : Type 0} (d : A) (l : List A) (n : ℕ) → length l ≡ n → (js : List ℕ) (i place : ℕ) → i < n - length js → place ≡ stands n js i
+    → getD l place d ≡ getD (left d l js) i d
+read-left d l n m js i place h e = rw e (sym (rw m at (at-left d l js i (omega (arith, m)))))
 
 -- and what is left of their points says that very place
-pub point-left : (xs : List ClipVertex) (n : ℕ) (long : n ≤ length xs) (js : List ℕ) (i place : ℕ) → i < n - length js → place ≡ stands n js i
-    → pointOf place (getD xs place pastVertex) ≡ getD (left pastPoint (placed (take n xs)) js) i pastPoint
-point-left xs n long js i place h e =
-    let m : length (take n xs) ≡ n = length-take-le n xs long in
-    let k : length (placed (take n xs)) ≡ n = length-placed 0 (take n xs) ∙ m in
-    let low : place < n = place-low pastVertex xs n long js i place h e in
-    ap (pointOf place) (sym (getD-take n xs place pastVertex low))
-    ∙ (sym (at-placed pastPoint (take n xs) place (omega (arith, m, low)))
-    ∙ rw e (sym (rw k at (at-left pastPoint (placed (take n xs)) js i (omega (arith, k))))))
-
-pub length-left-of : {A : Type 0} (d : A) (xs : List A) (n : ℕ) (js : List ℕ) → n ≤ length xs → length (left d (take n xs) js) ≡ n - length js
-length-left-of d xs n js h = let m : length (take n xs) ≡ n = length-take-le n xs h in omega (arith, m, length-left d (take n xs) js)
+pub point-left : (l : List ClipVertex) (n : ℕ) → length l ≡ n → (js : List ℕ) (i place : ℕ) → i < n - length js → place ≡ stands n js i
+    → pointOf place (getD l place pastVertex) ≡ getD (left pastPoint (placed l) js) i pastPoint
+point-left l n m js i place h e =
+    let k : length (placed l) ≡ n = length-placed 0 l ∙ m in
+    sym (at-placed pastPoint l place (omega (arith, m, place-low n js i place h e))) ∙ read-left pastPoint (placed l) n k js i place h e
 
 -- three taken, as the code says it
 pub stands-third : (n j1 j2 j3 i : ℕ) → standing n j1 (standing (n - 1) j2 (standing (n - 2) j3 i)) ≡ stands n (j1 ∷ j2 ∷ j3 ∷ []) i

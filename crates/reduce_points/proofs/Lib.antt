@@ -1,2 +1,1 @@
-pub mod Points
 pub mod Placed

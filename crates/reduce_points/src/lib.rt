@@ -1,14 +1,10 @@
 // The contact of up to four points, unused ones above their number. What it holds is in specs/Points.antt.
 ghost use mathlib.Core.List.{[], _∷_};
 ghost use mathlib.Core.Path.{_≡_};
-ghost use Prim.Native.Nat.{_≤_};
-ghost use Rattle.manifold.specs.Polygons.{cornersOf};
-ghost use Rattle.reduce_points.specs.Points.{pointOf, placed, contactOf};
+ghost use Rattle.reduce_points.specs.Points.{pointOf, contactOf};
 use manifold::ClipVertex;
 use manifold::Contact;
 use manifold::Point;
-use manifold::Polygon;
-use manifold::records::empty_contact;
 use manifold::records::unused_point;
 use vector::Vec3;
 
@@ -68,29 +64,4 @@ pub fn four_points(p1: Point, p2: Point, p3: Point, p4: Point, normal: Vec3) -> 
         normal,
         count: 4,
     }
-}
-
-// All of four or fewer, in order.
-pub fn all_points(images: Polygon, normal: Vec3) -> Contact
-    requires { ⌜ images .count ≤ 4 ⌝ }
-    ensures { λ r. ⌜ r ≡ contactOf normal (placed (cornersOf images)) ⌝ }
-{
-    let n = images.count;
-    if n == 0 {
-        return empty_contact();
-    }
-    let p1 = point_of(0, images.vertices[0]);
-    if n == 1 {
-        return one_point(p1, normal);
-    }
-    let p2 = point_of(1, images.vertices[1]);
-    if n == 2 {
-        return two_points(p1, p2, normal);
-    }
-    let p3 = point_of(2, images.vertices[2]);
-    if n == 3 {
-        return three_points(p1, p2, p3, normal);
-    }
-    let p4 = point_of(3, images.vertices[3]);
-    four_points(p1, p2, p3, p4, normal)
 }

@@ -1,14 +1,12 @@
--- A loop that makes a state of a list's corners in turn, and the end of one that fills a polygon. Assumes nothing.
+-- A loop that makes a state of a list's corners in turn. Assumes nothing.
 use Prim.Native.Nat.{ℕ, _+_, _≤_}
 use mathlib.Core.Path.{_≡_, ap, _∙_}
 use mathlib.Core.List.{List}
 use native.Mathlib.Omega.{arith}
-use lib.ListN.{length, take, getD}
-use lib.Seq.{take-all}
+use lib.ListN.{length, getD}
 use Rattle.manifold.specs.declared.ClipVertex.{ClipVertex}
-use Rattle.manifold.specs.declared.Polygon.{Polygon}
 use Rattle.manifold.specs.Records.{pastVertex}
-use Rattle.manifold.specs.Polygons.{clipPlacesOf, polygonOf, turns}
+use Rattle.manifold.specs.Polygons.{turns}
 use Rattle.manifold.proofs.Polygons.{no-turn, one-turn}
 
 -- what f makes of a state, a place and the corner there, over the first n places of l
@@ -24,8 +22,3 @@ module _ {S : Type 0} (f : S → ℕ → ClipVertex → S) (start : S) (l : List
 
   pub end-over : (s : S) (i n : ℕ) → length l ≡ n → i ≤ n → n ≤ i → s ≡ over f start l i → s ≡ over f start l (length l)
   end-over s i n e h k p = let m : i ≡ length l = omega (arith, e) in p ∙ ap (over f start l) m
-
--- once all n of l stand in the places, the polygon is that of l
-pub filled : (l out : List ClipVertex) (i n : ℕ) → length l ≡ n → n ≤ i → out ≡ clipPlacesOf (take i l)
-    → _≡_ {A = Polygon} (record { vertices = out; count = n }) (polygonOf l)
-filled l out i n e h p = rw (p, take-all i l (omega (arith, e)), ← e)

@@ -2,7 +2,7 @@
 -- least separation at or above speculative: not touching". Definitions only.
 use Prim.Native.Nat.{ℕ}
 use mathlib.Core.Bool.{Bool, true, false, cond}
-use mathlib.Core.List.{List}
+use mathlib.Core.List.{List, map}
 use lib.ListN.{length, getD}
 use lib.Dec.{ltb}
 use lib.Ieee as Ieee
@@ -14,10 +14,15 @@ use Rattle.vector.specs.Arithmetic.{mulSubOf}
 use Rattle.manifold.specs.declared.ClipVertex.{ClipVertex}
 use Rattle.manifold.specs.Records.{pastVertex}
 use Rattle.manifold.specs.Polygons.{turns}
+use Rattle.clip_corners.specs.Places.{cornersIn}
 
 -- the image of a candidate
 unfoldable pub imageOf : Vec3 → ClipVertex → ClipVertex
 imageOf normal v = record { position = mulSubOf (v .position) (float 0x3f00_0000 ⊗ v .separation) normal; separation = v .separation; pair = v .pair }
+
+-- the images of the k candidates from corner p on
+abbrev pub imagesIn : Vec3 → List Float → List ℕ → ℕ → ℕ → List ClipVertex
+imagesIn normal n t p k = map (imageOf normal) (cornersIn n t p k)
 
 -- the largest float
 abbrev pub largest : Float

@@ -14,7 +14,7 @@ ghost use Rattle.stream_pending.specs.Held.{Ready, Held};
 ghost use Rattle.stream.specs.Tells.{Tells};
 ghost use Rattle.stream.specs.Told.{lineTold, toldLast};
 use frame::lines::line_answer;
-use frame_encode::put_byte;
+use lists::write_byte;
 use stream_pending::Pending;
 use stream_pending::end_line;
 use stream_pending::goes_on;
@@ -34,10 +34,10 @@ fn put_long(out: &mut [u8]) -> usize
     requires { ⌜ longestLineAnswer ≤ length (now out) ⌝ }
     ensures { λ r. ⌜ Answers (hexOf (faultOf 0x24)) (now (out .entry)) r (now (out .exit)) ⌝ }
 {
-    put_byte(out, 0, b'f');
-    put_byte(out, 1, b'f');
-    put_byte(out, 2, b'2');
-    put_byte(out, 3, b'4');
+    write_byte(out, 0, b'f');
+    write_byte(out, 1, b'f');
+    write_byte(out, 2, b'2');
+    write_byte(out, 3, b'4');
     4
 }
 

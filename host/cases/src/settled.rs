@@ -57,22 +57,48 @@ pub struct Pair {
     pub transform: Transform,
 }
 
-/// Different logs, and pairs of them in any order.
+/// How many logs lie beside each other in a stack by place.
+const ROW: usize = 40;
+
+/// Different logs, and pairs of them.
 pub struct Stack {
     pub logs: Vec<Shape>,
     pub pairs: Vec<Pair>,
 }
 
 impl Stack {
-    /// So many logs, and pairs of every class by its share; exactly so where the number is a multiple of twenty.
+    /// So many logs, and pairs of any two of every class by its share; exactly so where the number is a multiple of twenty.
     pub fn new(logs: usize, pairs: usize, n: &mut Numbers) -> Stack {
+        Stack::of_pairs(logs, pairs, n, |_, n| [n.below(logs), n.below(logs)])
+    }
+
+    /// So many logs numbered by place, row on row, and pairs of neighbours in the order of their first log: in a row, and with the
+    /// row above, where each lies on two or touches a third.
+    pub fn by_place(logs: usize, pairs: usize, n: &mut Numbers) -> Stack {
+        let above = [1, ROW - 1, ROW, ROW + 1];
+        let beside = |a: usize| above.map(|by| [a, a + by]);
+        let all: Vec<[usize; 2]> = (0..logs)
+            .flat_map(beside)
+            .filter(|&[_, b]| b < logs)
+            .collect();
+        assert!(pairs <= all.len(), "a log has fewer neighbours");
+        // Evenly, where there are more than are wanted.
+        Stack::of_pairs(logs, pairs, n, |place, _| all[place * all.len() / pairs])
+    }
+
+    fn of_pairs(
+        logs: usize,
+        pairs: usize,
+        n: &mut Numbers,
+        named: impl Fn(usize, &mut Numbers) -> [usize; 2],
+    ) -> Stack {
         let made: Vec<(Log, Shape)> = (0..logs).map(|_| Log::any(n)).collect();
         let (bodies, logs): (Vec<Log>, Vec<Shape>) = made.into_iter().unzip();
         let twenty = || Class::ALL.into_iter().flat_map(|c| [c].repeat(c.share()));
         let classes: Vec<Class> = (0..pairs.div_ceil(20)).flat_map(|_| twenty()).collect();
         let order = n.order(classes.len());
-        let pairs = order[..pairs].iter().map(|&place| {
-            let (a, b) = (n.below(bodies.len()), n.below(bodies.len()));
+        let pairs = order[..pairs].iter().enumerate().map(|(number, &place)| {
+            let [a, b] = named(number, n);
             let class = classes[place];
             let transform = place_pair(class, &bodies[a], &bodies[b], n);
             Pair {

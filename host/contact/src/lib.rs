@@ -8,13 +8,16 @@
 //! candidates carry one tag, the point's [`place`](Point::place) tells which of them it was. [`HullBuilder`] makes a hull from
 //! its vertices and faces.
 //!
+//! A simulator with many hulls and pairs calls [`step`] once a step: it answers every pair as [`collide`] does and judges each hull
+//! once, where call by call each is judged in each of its pairs. [`Stack`] holds the hulls.
+//!
 //! # What a host must know
 //!
 //! - Units: a hull has one of four length units ([`Unit`], metres if nothing is said), and both hulls of a call have the same.
 //!   B's place and everything that comes out is in that unit and in A's frame, the normal from A to B; a separation is below
 //!   zero where the hulls overlap. Limits and tolerances go by the unit: [`Unit::farthest`] and those beside it.
 //! - Threads: the library has no state and allocates nothing; any number of threads may call it.
-//! - Stack: a call needs at most 24 KB of its thread's stack, [`answer`] 32 KB, beside what the thread needs itself.
+//! - Stack: a call and a [`step`] need at most 24 KB of their thread's stack, [`answer`] 32 KB, beside what the thread needs itself.
 //! - Floating point: the default environment, round to nearest, no flush to zero, no denormals as zero. Nothing tests it,
 //!   and with another one the answers are others.
 //! - Platform: x86-64 Linux. The library is looked for in the repository's target/staticlib, or in the folder that the
@@ -89,6 +92,8 @@ pub use broken::Broken;
 pub use builder::{BuildError, Counted, HullBuilder, OwnedHull, FLAT_TOLERANCE};
 pub use hull::{Hull, HullError};
 pub use records::*;
+pub use stack::{Hulls, Stack, StackError};
+pub use step::{step, step_lists, Cause, NoRoom, PairAnswer, PairRefused, StepRoom, Stepped};
 
 use std::fmt;
 use std::ops::Deref;
@@ -98,6 +103,8 @@ mod builder;
 mod hull;
 mod linked;
 mod shells;
+mod stack;
+mod step;
 
 /// Whether the linked library has the records of this wrapper. A host asks when it starts, to say so in its own way; every
 /// other function here panics with the same words where it has not, before anything is called.

@@ -1,7 +1,7 @@
 //! What `libcontactlib.a` exports. A slice is a pointer and a length.
 
 use crate::{check_library, OtherLibrary};
-use records::{HullSize, Outcome, SatCache, Transform};
+use records::{HullSize, Outcome, SatCache, Step, Transform};
 
 /// Nothing of a library with other records is called: they would be misread in silence.
 #[inline]
@@ -56,4 +56,25 @@ extern "C" {
         transform: Transform,
         cache: *mut SatCache,
     ) -> Outcome;
+
+    pub fn contact_step(
+        numbers: *const f32,
+        numbers_len: usize,
+        links: *const u8,
+        links_len: usize,
+        hulls: *const u32,
+        hulls_len: usize,
+        pairs: *const u32,
+        pairs_len: usize,
+        transforms: *const f32,
+        transforms_len: usize,
+        judged: *mut u8,
+        judged_len: usize,
+        caches: *mut u32,
+        caches_len: usize,
+        floats: *mut f32,
+        floats_len: usize,
+        bytes: *mut u8,
+        bytes_len: usize,
+    ) -> Step;
 }

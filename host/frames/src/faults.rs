@@ -10,6 +10,7 @@ use cases::calls::Given;
 use records::SatCache;
 
 mod shells;
+pub mod steps;
 #[cfg(rust_text)]
 mod units;
 

@@ -1,5 +1,5 @@
 //! Any bytes through the library: frames of every sort that are changed a little or much, and bytes at random, into places
-//! of every size. Round `r` of a seed depends on these two numbers alone.
+//! of every size; and any lists through its step. Round `r` of a seed depends on these two numbers alone.
 
 use crate::codec::{
     CACHE, CALL, CAPACITY, FLIP, HULL_A, LONGEST_ANSWER, RETIRED, ROOT, STATUS, TRANSFORM,
@@ -7,8 +7,10 @@ use crate::codec::{
 };
 use crate::library::{Library, Room};
 use crate::sorts::Frames;
+use crate::steps::{self, any::wild, room};
 use crate::{hex, wanted, Frame};
 use cases::Numbers;
+use records::{PAIR_BYTES, STATUS_BYTE};
 use std::time::{Duration, Instant};
 
 /// Frames that are changed.
@@ -16,6 +18,9 @@ const FRAMES: usize = 4000;
 
 /// Longer ones are left to the other runs, so that there are more rounds.
 const LONGEST: usize = 10_000;
+
+/// One round of so many is a step.
+const STEP_ROUNDS: u64 = 8;
 
 /// How many differences are shown, and how often the run says how far it is.
 const SHOWN: u64 = 5;
@@ -43,6 +48,11 @@ pub struct Fuzzed {
     small: u64,
     /// Without an answer, since the Rust text would be needed.
     untold: u64,
+    steps: u64,
+    /// Of the steps those refused by 21, the others' pairs, and of these the accepted ones.
+    small_steps: u64,
+    pairs: u64,
+    accepted_pairs: u64,
 }
 
 impl Fuzz {
@@ -87,6 +97,9 @@ impl Fuzz {
         let base = Numbers::new(self.seed).word();
         let mut numbers = Numbers::new(base.wrapping_add(round));
         let n = &mut numbers;
+        if round % STEP_ROUNDS == STEP_ROUNDS - 1 {
+            return self.step(round, n, library, fuzzed);
+        }
         let frame = self.frame(n);
         let size = match n.below(16) {
             0 => n.below(LONGEST_ANSWER),
@@ -121,6 +134,23 @@ impl Fuzz {
                 );
                 eprintln!("  came   {}", came.map_or_else(str::to_string, text));
                 eprintln!("  frame  {}", text(&frame));
+            }
+        }
+    }
+
+    /// A step over any lists.
+    fn step(&self, round: u64, n: &mut Numbers, library: &mut impl Library, fuzzed: &mut Fuzzed) {
+        let given = wild(n);
+        let wanted = steps::wanted::of(&given);
+        let (came, after) = room::Room::new(&given).ask(&given, library);
+        fuzzed.add_step(&wanted);
+        if let Some(what) = steps::differs(&given, &wanted, &came, &after) {
+            fuzzed.different += 1;
+            if fuzzed.different <= SHOWN {
+                eprintln!(
+                    "different: seed {}, round {round}, a step: {what}",
+                    self.seed
+                );
             }
         }
     }
@@ -229,6 +259,19 @@ impl Fuzzed {
         };
         *count += 1;
     }
+
+    fn add_step(&mut self, wanted: &steps::wanted::Written) {
+        self.rounds += 1;
+        self.steps += 1;
+        if wanted.step.status != 0 {
+            self.small_steps += 1;
+            return;
+        }
+        self.pairs += wanted.told.len() as u64;
+        let bytes = wanted.bytes.chunks_exact(PAIR_BYTES).zip(&wanted.told);
+        let accepted = bytes.filter(|(bytes, &told)| told && bytes[STATUS_BYTE] == 0);
+        self.accepted_pairs += accepted.count() as u64;
+    }
 }
 
 impl std::fmt::Display for Fuzzed {
@@ -244,12 +287,17 @@ impl std::fmt::Display for Fuzzed {
             unlike_units,
             small,
             untold,
+            steps,
+            small_steps,
+            pairs,
+            accepted_pairs,
         } = self;
         write!(
             f,
             "{rounds} rounds, {different} different; roots and pairs {roots_and_pairs}, calls accepted {accepted}, {marked} of \
              them of a retired type, refused {refused}, {unlike_units} of them for unlike units, faults {faults}, too little room \
-             {small}, without an answer to hold it to {untold}"
+             {small}, without an answer to hold it to {untold}; steps {steps}, {small_steps} of them without room, pairs of the \
+             others {pairs}, {accepted_pairs} of them accepted"
         )
     }
 }

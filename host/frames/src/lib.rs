@@ -15,6 +15,7 @@ pub mod mix;
 pub mod program;
 pub mod requests;
 pub mod sorts;
+pub mod steps;
 #[cfg(rust_text)]
 pub mod stored;
 pub mod wanted;

@@ -3,16 +3,21 @@
 use crate::codec::{self, Asked, LONGEST_ANSWER};
 use crate::held::{Came, Held, Verdict};
 use crate::sorts::Frames;
+use crate::steps::Lent;
 use crate::wanted;
 use cases::calls::{Answer, Call};
+use records::Step;
 
-/// The two exported functions that answer a call, or stand-ins for them.
+/// The exported functions that answer a call, a frame and a step, or stand-ins for them.
 pub trait Library {
     /// The answer to a frame in bytes, written to `answer`: how many bytes it has. Where `answer` has fewer than
     /// [`LONGEST_ANSWER`], that is 0 and nothing is written.
     fn answer(&mut self, frame: &[u8], answer: &mut [u8]) -> usize;
 
     fn collide(&mut self, call: &Call) -> Answer;
+
+    /// One step over these lists.
+    fn step(&mut self, lists: &mut Lent) -> Step;
 }
 
 /// So many frames in bytes, and those that are calls through `collide` as well.

@@ -6,12 +6,15 @@ use frames::codec::LONGEST_ANSWER;
 use frames::fuzz::Fuzz;
 use frames::library::{self, Library};
 use frames::sorts::Frames;
+use frames::steps::{self, Lent};
 use frames::{faults, hex, program, wanted};
+use records::Step;
 use std::process::Command;
 use std::time::Duration;
 
 const COUNT: usize = 4000;
 const ROUNDS: u64 = 4000;
+const STEPS: usize = 300;
 
 fn plain(fault: Option<&str>) -> Command {
     let mut command = Command::new(env!("CARGO_BIN_EXE_plain"));
@@ -64,6 +67,8 @@ struct StandIn {
     unplaced: bool,
     /// Takes hull A's unit for hull B's in a call by records.
     one_unit: bool,
+    /// Makes a step so.
+    steps: faults::steps::Steps,
 }
 
 const RIGHT: StandIn = StandIn {
@@ -75,6 +80,7 @@ const RIGHT: StandIn = StandIn {
     unmarked: false,
     unplaced: false,
     one_unit: false,
+    steps: faults::steps::right,
 };
 
 impl Library for StandIn {
@@ -114,6 +120,10 @@ impl Library for StandIn {
         }
         answer
     }
+
+    fn step(&mut self, lists: &mut Lent) -> Step {
+        (self.steps)(lists)
+    }
 }
 
 fn fuzzed(mut library: StandIn) -> u64 {
@@ -125,9 +135,35 @@ fn held(mut library: StandIn) -> u64 {
     library::run(&Frames::new(1), COUNT, &mut library).different
 }
 
+/// How many steps differ.
+fn stepped(mut library: StandIn) -> u64 {
+    steps::run(1, STEPS, &mut library).different
+}
+
 #[test]
 fn a_right_library_is_right() {
-    assert_eq!((fuzzed(RIGHT), held(RIGHT)), (0, 0));
+    assert_eq!((fuzzed(RIGHT), held(RIGHT), stepped(RIGHT)), (0, 0, 0));
+}
+
+#[test]
+fn faults_of_a_step_are_told() {
+    for (fault, steps) in faults::steps::FAULTS {
+        assert!(stepped(StandIn { steps, ..RIGHT }) > 0, "{fault}");
+    }
+    for fault in [
+        "what stood in judged believed",
+        "a hull judged by another's numbers",
+        "a neighbour's cache read",
+        "points of refused pairs counted",
+        "a hull number that is none taken for the last",
+        "hulls noted where there is no room for pairs",
+        "as many pairs as there is room for",
+        "half a pair answered",
+    ] {
+        let mut all = faults::steps::FAULTS.into_iter();
+        let (_, steps) = all.find(|&(name, _)| name == fault).expect(fault);
+        assert!(fuzzed(StandIn { steps, ..RIGHT }) > 0, "{fault}");
+    }
 }
 
 #[test]

@@ -1,7 +1,10 @@
 //! Corners in two lists, as the library is lent them: four numbers and four bytes each. There is room for two polygons.
 
 use super::contacts::linked;
-use super::{Accepted, ClipVertex, FeaturePair, Plane, Polygon, Transform, Vec3, MAX_CLIP_POINTS};
+use super::{
+    Accepted, ClipVertex, Contact, FeaturePair, Kept, Plane, Transform, Vec3, MAX_CLIP_POINTS,
+    MOST_ROUNDS,
+};
 
 const ROOM: usize = 2 * MAX_CLIP_POINTS;
 
@@ -12,6 +15,7 @@ pub struct Places {
 }
 
 impl Default for Places {
+    /// Zeros.
     fn default() -> Places {
         Places {
             numbers: [0.0; 4 * ROOM],
@@ -21,27 +25,37 @@ impl Default for Places {
 }
 
 impl Places {
-    /// All 64 places of the polygon in the first half, and zeros in the second.
-    pub fn new(polygon: &Polygon) -> Places {
+    /// These corners from the first on, and zeros behind them. Panics where they do not fit.
+    pub fn new(corners: &[ClipVertex]) -> Places {
         let mut places = Places::default();
-        let numbers = places.numbers.chunks_exact_mut(4);
-        let tags = places.tags.chunks_exact_mut(4);
-        for ((numbers, tags), v) in numbers.zip(tags).zip(&polygon.vertices) {
-            numbers.copy_from_slice(&[v.position.x, v.position.y, v.position.z, v.separation]);
-            tags.copy_from_slice(&[v.pair.owner1, v.pair.index1, v.pair.owner2, v.pair.index2]);
-        }
+        places.put(0, corners);
         places
     }
 
-    /// The 64 places from corner `from` on, with so many corners.
-    pub fn polygon(&self, from: usize, count: usize) -> Polygon {
-        let mut vertices = [ClipVertex::ZERO; MAX_CLIP_POINTS];
-        for (i, v) in vertices.iter_mut().enumerate() {
-            let a = 4 * (from + i);
-            let [x, y, z, separation] = self.numbers[a..a + 4].try_into().expect("four numbers");
-            let [owner1, index1, owner2, index2] =
-                self.tags[a..a + 4].try_into().expect("four bytes");
-            *v = ClipVertex {
+    /// Every corner is this one.
+    pub fn filled(corner: ClipVertex) -> Places {
+        Places::new(&[corner; ROOM])
+    }
+
+    /// These corners stand from corner `from` on then. Panics where they do not fit.
+    pub fn put(&mut self, from: usize, corners: &[ClipVertex]) {
+        let numbers = self.numbers[4 * from..4 * (from + corners.len())].chunks_exact_mut(4);
+        let tags = self.tags[4 * from..4 * (from + corners.len())].chunks_exact_mut(4);
+        for ((numbers, tags), v) in numbers.zip(tags).zip(corners) {
+            numbers.copy_from_slice(&[v.position.x, v.position.y, v.position.z, v.separation]);
+            tags.copy_from_slice(&[v.pair.owner1, v.pair.index1, v.pair.owner2, v.pair.index2]);
+        }
+    }
+
+    /// The corners that stand there. Panics where there is no room for so many.
+    pub fn corners(&self, kept: Kept) -> Vec<ClipVertex> {
+        let all = 4 * kept.from..4 * (kept.from + kept.count);
+        let numbers = self.numbers[all.clone()].chunks_exact(4);
+        let tags = self.tags[all].chunks_exact(4);
+        let corner = |(numbers, tags): (&[f32], &[u8])| {
+            let [x, y, z, separation] = numbers.try_into().expect("four numbers");
+            let [owner1, index1, owner2, index2] = tags.try_into().expect("four bytes");
+            ClipVertex {
                 position: Vec3 { x, y, z },
                 separation,
                 pair: FeaturePair {
@@ -50,9 +64,9 @@ impl Places {
                     owner2,
                     index2,
                 },
-            };
-        }
-        Polygon { vertices, count }
+            }
+        };
+        numbers.zip(tags).map(corner).collect()
     }
 
     /// The cut of the first n corners, which leaves so many; the first 64 of them stand in the second half then. Panics
@@ -99,6 +113,107 @@ impl Places {
                 self.numbers.len(),
                 self.tags.as_mut_ptr(),
                 self.tags.len(),
+            )
+        }
+    }
+    /// The candidates, cut in these lists. Panics where A has no such face or B no such vertex.
+    #[inline]
+    pub fn candidates(
+        &mut self,
+        a: Accepted,
+        b: Accepted,
+        transform: Transform,
+        face: usize,
+        vertex: usize,
+    ) -> Kept {
+        assert!(face < a.size.faces && vertex < b.size.vertices);
+        unsafe {
+            linked::probe_candidates(
+                a.numbers.as_ptr(),
+                a.numbers.len(),
+                a.links.as_ptr(),
+                a.links.len(),
+                a.size,
+                b.numbers.as_ptr(),
+                b.numbers.len(),
+                b.links.as_ptr(),
+                b.links.len(),
+                b.size,
+                transform,
+                face,
+                vertex,
+                self.numbers.as_mut_ptr(),
+                self.numbers.len(),
+                self.tags.as_mut_ptr(),
+                self.tags.len(),
+            )
+        }
+    }
+
+    /// The image of the candidate at corner p. Panics where there is no room for such a corner.
+    pub fn image_at(&self, p: usize, normal: Vec3) -> ClipVertex {
+        assert!(p < ROOM);
+        unsafe {
+            linked::probe_image_at(
+                self.numbers.as_ptr(),
+                self.numbers.len(),
+                self.tags.as_ptr(),
+                self.tags.len(),
+                p,
+                normal,
+            )
+        }
+    }
+
+    /// Panics where the candidates are more than 64 or begin past corner 64.
+    pub fn least_separation(&self, kept: Kept) -> f32 {
+        assert!(kept.from <= MAX_CLIP_POINTS && kept.count <= MAX_CLIP_POINTS);
+        unsafe {
+            linked::probe_least_separation(
+                self.numbers.as_ptr(),
+                self.numbers.len(),
+                self.tags.as_ptr(),
+                self.tags.len(),
+                kept.from,
+                kept.count,
+            )
+        }
+    }
+
+    /// Panics where the candidates are more than 64 or begin past corner 64.
+    #[inline]
+    pub fn reduce_manifold_points(&self, unit: usize, kept: Kept, normal: Vec3) -> Contact {
+        assert!(kept.from <= MAX_CLIP_POINTS && kept.count <= MAX_CLIP_POINTS);
+        unsafe {
+            linked::probe_reduce_manifold_points(
+                unit,
+                self.numbers.as_ptr(),
+                self.numbers.len(),
+                self.tags.as_ptr(),
+                self.tags.len(),
+                kept.from,
+                kept.count,
+                normal,
+            )
+        }
+    }
+
+    /// So many reductions inside the library, and how many points they leave together. Panics where the candidates are more
+    /// than 64 or begin past corner 64, or the rounds are too many.
+    pub fn reduce_rounds(&self, unit: usize, kept: Kept, normal: Vec3, rounds: usize) -> usize {
+        assert!(kept.from <= MAX_CLIP_POINTS && kept.count <= MAX_CLIP_POINTS);
+        assert!(rounds <= MOST_ROUNDS);
+        unsafe {
+            linked::probe_reduce_rounds(
+                unit,
+                self.numbers.as_ptr(),
+                self.numbers.len(),
+                self.tags.as_ptr(),
+                self.tags.len(),
+                kept.from,
+                kept.count,
+                normal,
+                rounds,
             )
         }
     }

@@ -41,14 +41,6 @@ fn at_rest(x: f32) -> Transform {
     }
 }
 
-/// So many corners, which `Polygon::new` would not give where they are more than 64.
-fn corners(count: usize) -> Polygon {
-    Polygon {
-        count,
-        ..Polygon::new(&[])
-    }
-}
-
 fn lanes(w: f32) -> FloatW {
     FloatW {
         x: 1.0,
@@ -99,25 +91,33 @@ fn lanes_are_finite_and_numbers_below_128() {
 
 #[test]
 fn polygons_have_1_to_64_corners() {
-    keeps("1", || clip_polygon(&corners(1), FLOOR, 0, FLOOR));
-    keeps("64", || clip_polygon(&corners(64), FLOOR, 0, FLOOR));
-    breaks("0", || clip_polygon(&corners(0), FLOOR, 0, FLOOR));
-    breaks("65", || clip_polygon(&corners(65), FLOOR, 0, FLOOR));
-    keeps("images of 64", || images(&corners(64), UP));
-    breaks("images of 65", || images(&corners(65), UP));
-    keeps("least of 64", || least_separation(&corners(64)));
-    breaks("least of 65", || least_separation(&corners(65)));
-    keeps("picks of 64", || {
-        reduce_manifold_points(1, &corners(64), UP, UP)
-    });
-    breaks("picks of 65", || {
-        reduce_manifold_points(1, &corners(65), UP, UP)
-    });
-    keeps("rounds", || reduce_rounds(1, &corners(64), UP, UP, 1));
-    breaks("rounds of 65", || reduce_rounds(1, &corners(65), UP, UP, 1));
-    breaks("too many rounds", || {
-        reduce_rounds(1, &corners(64), UP, UP, MOST_ROUNDS + 1)
-    });
+    let cut = |n: usize| Places::default().clip_polygon(n, FLOOR, 0, FLOOR);
+    keeps("1", || cut(1));
+    keeps("64", || cut(64));
+    breaks("0", || cut(0));
+    breaks("65", || cut(65));
+}
+
+#[test]
+fn candidates_stand_in_the_lists() {
+    let places = Places::default();
+    keeps("the last corner", || places.image_at(127, UP));
+    breaks("none there", || places.image_at(128, UP));
+    let (last, many, late) = ([64, 64], [0, 65], [65, 0]);
+    let kept = |[from, count]: [usize; 2]| Kept { from, count };
+    let least = |at| places.least_separation(kept(at));
+    keeps("least of 64", || least(last));
+    breaks("least of 65", || least(many));
+    breaks("least past corner 64", || least(late));
+    let picks = |at| places.reduce_manifold_points(1, kept(at), UP);
+    keeps("picks of 64", || picks(last));
+    breaks("picks of 65", || picks(many));
+    breaks("picks past corner 64", || picks(late));
+    let rounds = |at, rounds| places.reduce_rounds(1, kept(at), UP, rounds);
+    keeps("rounds", || rounds(last, 1));
+    breaks("rounds of 65", || rounds(many, 1));
+    breaks("rounds past corner 64", || rounds(late, 1));
+    breaks("too many rounds", || rounds(last, MOST_ROUNDS + 1));
 }
 
 #[test]
@@ -134,21 +134,18 @@ fn hulls_are_accepted_and_numbers_theirs() {
     breaks("no such vertex", || {
         find_incident_face(hull, UP, size.vertices)
     });
-    keeps("last face", || {
-        build_polygon(hull, at_rest(0.0), size.faces - 1, FLOOR)
-    });
-    breaks("no such face", || {
-        build_polygon(hull, at_rest(0.0), size.faces, FLOOR)
-    });
+    let build = |face| Places::default().build_polygon(hull, at_rest(0.0), face, FLOOR);
+    keeps("last face", || build(size.faces - 1));
+    breaks("no such face", || build(size.faces));
+    let candidates = |face, vertex| {
+        let mut places = Places::default();
+        places.candidates(hull, hull, at_rest(0.0), face, vertex)
+    };
     keeps("last of both", || {
-        candidates(hull, hull, at_rest(0.0), size.faces - 1, size.vertices - 1)
+        candidates(size.faces - 1, size.vertices - 1)
     });
-    breaks("no such face of A", || {
-        candidates(hull, hull, at_rest(0.0), size.faces, 0)
-    });
-    breaks("no such vertex of B", || {
-        candidates(hull, hull, at_rest(0.0), 0, size.vertices)
-    });
+    breaks("no such face of A", || candidates(size.faces, 0));
+    breaks("no such vertex of B", || candidates(0, size.vertices));
 }
 
 /// In each unit by its own limit, and only between hulls of that unit.

@@ -5,17 +5,19 @@ mod cache;
 mod hull;
 mod refusal;
 mod rule;
+mod step;
 mod unit;
 
 pub use cache::{CacheKind, SatCache};
 pub use hull::{HullLists, HullSize};
 pub use refusal::Refusal;
 pub use rule::Rule;
+pub use step::*;
 pub use unit::{Unit, UnknownUnit};
 
 /// The number of these records and of the functions that take them. The library has the number that it was built with
 /// (`contact_abi`), and the header has it too (`CONTACT_ABI`); where two of them differ, nothing is called.
-pub const ABI: u32 = 5;
+pub const ABI: u32 = 6;
 
 /// The most points of a contact, and the least capacity with which a call does any work.
 pub const MAX_MANIFOLD_POINTS: usize = 4;

@@ -13,6 +13,8 @@ pub enum Refusal {
     PaddingWon,
     CutFull,
     Owner,
+    /// Of a whole step alone, and of no pair: nothing was written.
+    NoRoom,
     /// A number that is none of these. No library of this ABI number gives it; if one did, its call must not pass for an
     /// accepted one.
     Unknown {
@@ -22,7 +24,7 @@ pub enum Refusal {
 
 impl Refusal {
     /// Those that are given.
-    pub const ALL: [Refusal; 8] = [
+    pub const ALL: [Refusal; 9] = [
         Refusal::HullA,
         Refusal::HullB,
         Refusal::Units,
@@ -31,10 +33,11 @@ impl Refusal {
         Refusal::PaddingWon,
         Refusal::CutFull,
         Refusal::Owner,
+        Refusal::NoRoom,
     ];
 
     /// The refusal of this number; none where it is 0, and only there: nothing but 0 says that a call was accepted. A call's
-    /// status is at most 6 or it is 17, and a flip's is 0 or 8.
+    /// status is at most 6 or it is 17, a flip's is 0 or 8, and a step's 0 or 21.
     #[inline]
     pub fn of_status(status: u8) -> Option<Refusal> {
         if status == 0 {
@@ -55,6 +58,7 @@ impl Refusal {
             Refusal::PaddingWon => 5,
             Refusal::CutFull => 6,
             Refusal::Owner => 8,
+            Refusal::NoRoom => 21,
             Refusal::Unknown { status } => status,
         }
     }
@@ -72,6 +76,7 @@ impl Refusal {
             Refusal::PaddingWon => "a padding lane reaches farther than every vertex",
             Refusal::CutFull => "a cut would put out a 65th vertex",
             Refusal::Owner => "the pair to be flipped has an owner above 1",
+            Refusal::NoRoom => "a list that is lent has too few places for the hulls and pairs",
             Refusal::Unknown { .. } => "the library gives a number that this wrapper does not know",
         }
     }
@@ -92,6 +97,9 @@ impl Refusal {
             Refusal::PaddingWon => "fill the padding with vertex 0",
             Refusal::CutFull => "give the two faces fewer sides",
             Refusal::Owner => "an owner is 0 for hull A or 1 for hull B",
+            Refusal::NoRoom => {
+                "lend for each hull a place of judged, and for each pair 7 of transforms, 2 of caches, 19 of floats, 24 of bytes"
+            }
             Refusal::Unknown { .. } => "take the library and the wrapper from the same release",
         }
     }

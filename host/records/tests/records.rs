@@ -22,6 +22,109 @@ fn layouts() {
     lies!(Point, 24, position 0, separation 12, pair 16, place 20);
     lies!(Contact, 112, points 0, normal 96, count 108);
     lies!(Outcome, 120, status 0, contact 4, retired 116);
+    lies!(HullRecord, 24, numbers 0, links 4, unit 8, vertices 12, half_edges 16, faces 20);
+    lies!(Pair, 8, a 0, b 4);
+    lies!(Step, 16, status 0, points 8);
+}
+
+/// A step's lists: each record takes as many places as is stated, and what is put in is read again.
+#[test]
+fn steps() {
+    assert_eq!(size_of::<HullRecord>(), 4 * HULL_WORDS);
+    assert_eq!(size_of::<Pair>(), 4 * PAIR_WORDS);
+    assert_eq!(size_of::<Transform>(), 4 * TRANSFORM_FLOATS);
+    assert_eq!(size_of::<SatCache>(), 4 * CACHE_WORDS);
+    let words = [7, 9, 10, 24, 72, 14];
+    let record = HullRecord::of_words(words);
+    assert_eq!(
+        (record.numbers, record.links, record.words()),
+        (7, 9, words)
+    );
+    let size = HullSize {
+        unit: 10,
+        vertices: 24,
+        half_edges: 72,
+        faces: 14,
+    };
+    assert_eq!(record.size(), size);
+
+    // The type in the low byte, the hit in the high one.
+    let cache = SatCache {
+        separation: 0x7fc1_2345,
+        kind: 2,
+        index_a: 3,
+        index_b: 5,
+        hit: 1,
+    };
+    assert_eq!(cache.words(), [0x7fc1_2345, 0x0105_0302]);
+    assert_eq!(SatCache::of_words(cache.words()), cache);
+
+    let (empty, unused) = Outcome {
+        status: 3,
+        contact: Contact::EMPTY,
+        retired: 0,
+    }
+    .in_step();
+    assert_eq!(empty, [0.0; PAIR_FLOATS]);
+    assert_eq!(unused[..PLACE_BYTES], [&[3][..], &[0; 19]].concat());
+    assert_eq!(unused[PLACE_BYTES..], [255; 4]);
+    let floats = std::array::from_fn(|i| i as f32);
+    let mut bytes: [u8; PAIR_BYTES] = std::array::from_fn(|i| 100 + i as u8);
+    bytes[3] = 0;
+    let outcome = Outcome::of_step(&floats, &bytes);
+    assert_eq!(
+        (outcome.status, outcome.contact.count, outcome.retired),
+        (100, 101, 102)
+    );
+    assert_eq!(
+        outcome.contact.normal,
+        Vec3 {
+            x: 0.0,
+            y: 1.0,
+            z: 2.0
+        }
+    );
+    let third = outcome.contact.points[2];
+    assert_eq!(
+        (third.position.x, third.position.z, third.separation),
+        (11.0, 13.0, 14.0)
+    );
+    assert_eq!(
+        (third.pair.owner1, third.pair.index2, third.place),
+        (112, 115, 122)
+    );
+    assert_eq!(outcome.in_step(), (floats, bytes));
+}
+
+/// The widths of the lists are the header's.
+#[test]
+fn widths() {
+    let header = include_str!("../../c/contact.h");
+    for (name, width) in [
+        ("HULL_WORDS", HULL_WORDS),
+        ("PAIR_WORDS", PAIR_WORDS),
+        ("TRANSFORM_FLOATS", TRANSFORM_FLOATS),
+        ("CACHE_WORDS", CACHE_WORDS),
+        ("PAIR_FLOATS", PAIR_FLOATS),
+        ("PAIR_BYTES", PAIR_BYTES),
+    ] {
+        let mut lines = header
+            .lines()
+            .filter_map(|line| line.strip_prefix("#define CONTACT_"));
+        let stated = lines.find_map(|line| line.strip_prefix(name)).expect(name);
+        let number = stated.split_whitespace().next().expect(name);
+        assert_eq!(number.parse(), Ok(width), "{name}");
+    }
+    for (name, place) in [
+        ("STATUS", STATUS_BYTE),
+        ("COUNT", COUNT_BYTE),
+        ("RETIRED", RETIRED_BYTE),
+        ("TAGS", TAG_BYTES),
+        ("PLACES", PLACE_BYTES),
+    ] {
+        let line = format!("CONTACT_BYTE_{name} = {place}");
+        assert!(header.contains(&line), "{line}");
+    }
 }
 
 #[test]
@@ -29,7 +132,7 @@ fn refusals() {
     assert_eq!(Refusal::of_status(0), None);
     for number in 1..=255 {
         let refusal = Refusal::of_status(number).expect("only 0 is accepted");
-        let given = matches!(number, 1..=6 | 8 | 17);
+        let given = matches!(number, 1..=6 | 8 | 17 | 21);
         assert_eq!(Refusal::ALL.contains(&refusal), given, "{number}");
         assert_eq!(refusal.number(), number);
         let words = refusal.to_string();

@@ -1,10 +1,13 @@
 //! What the runs share beside their cases: the proved answers, and the records of single layers beside the text's.
 
 use cases::calls::{Answer, Call};
+use cases::convert;
 use cases::shapes::Shape;
-use contact::{Hull, HullLists, Rule};
+use contact::{Hull, HullLists, Rule, Step};
 use frames::library::Library;
-use probes::Accepted;
+use frames::steps::Lent;
+use oracle::math_functions::mul_sub;
+use probes::{Accepted, ClipVertex, Vec3};
 
 #[cfg(rust_text)]
 pub mod corners;
@@ -14,6 +17,20 @@ pub mod searches;
 /// The shape as the library has accepted it.
 pub fn accepted(shape: &Shape) -> Accepted<'_> {
     Accepted::new(&shape.numbers, &shape.links, shape.size).expect("the hull is good")
+}
+
+/// The images of candidates, as the loop of hulls.rs makes them; it stands inside `build_face_a_contact` and is transcribed
+/// here over the readings.
+pub fn images(candidates: &[ClipVertex], normal: Vec3) -> Vec<ClipVertex> {
+    let image = |clip_point: &ClipVertex| {
+        let position = convert::vector(clip_point.position);
+        let half = 0.5 * clip_point.separation;
+        ClipVertex {
+            position: convert::ours(mul_sub(position, half, convert::vector(normal))),
+            ..*clip_point
+        }
+    };
+    candidates.iter().map(image).collect()
 }
 
 /// The proved answer to a call.
@@ -41,5 +58,19 @@ impl Library for Proved {
 
     fn collide(&mut self, call: &Call) -> Answer {
         ours(call)
+    }
+
+    fn step(&mut self, lists: &mut Lent) -> Step {
+        contact::step_lists(
+            lists.numbers,
+            lists.links,
+            lists.hulls,
+            lists.pairs,
+            lists.transforms,
+            lists.judged,
+            lists.caches,
+            lists.floats,
+            lists.bytes,
+        )
     }
 }

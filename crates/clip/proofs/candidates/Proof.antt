@@ -1,4 +1,4 @@
--- The incident face is in range.
+-- The incident face is in range, and it is the one of the definition.
 use Rattle.clip.specs.Candidates.{candidatesOf}
 use Rattle.hull.proofs.Hulls.{below}
 use Rattle.clip_incident.proofs.Fans.{incident-in}
@@ -16,17 +16,24 @@ find-incident-face-requires : tie.Need-find-incident-face-requires
 find-incident-face-requires c κs = search needs
 
 clip-to-face-requires : tie.Need-clip-to-face-requires
-clip-to-face-requires c κs = let p = c .before .before .before .before .before .before .before .pre in
-    (p .0, p .1, p .2, below _ _ _ (c .find-incident-face .ensures) (incident-in _ _ _ (p .1) _ _ (p .3)))
+clip-to-face-requires c κs = let p = c .before .before .before .before .before .before .before .before .before .before .before .pre in
+    (p .0, p .1, p .2, below _ _ _ (c .before .before .find-incident-face .ensures) (incident-in _ _ _ (p .1) _ _ (p .3)), p .4)
+
+same-length : tie.Need-same-length
+same-length c = search needs
+
+same-length-2 : tie.Need-same-length-2
+same-length-2 c = search needs
 
 returns : tie.Need-returns
 unfolding candidatesOf
-returns c = simp (
-  c .clip-to-face .ensures,
-  c .before .find-incident-face .ensures,
-  c .before .before .inv-rotate-vector .ensures,
-  c .before .before .before .plane-at .ensures,
-)
+returns c = let k = c .before .before .before .before in
+    rw (
+      k .before .before .before .find-incident-face .ensures,
+      k .before .before .before .before .inv-rotate-vector .ensures,
+      k .before .before
+          .before .before .before .plane-at .ensures,
+    ) at (k .clip-to-face .ensures)
 
 pub candidates-spec : {M : Type 1} → statement M
 candidates-spec =
@@ -36,4 +43,6 @@ candidates-spec =
     inv-rotate-vector-requires
     find-incident-face-requires
     clip-to-face-requires
+    same-length
+    same-length-2
     returns)

@@ -1,39 +1,51 @@
--- The loop keeps `Round`: what the cuts so far leave, cut by the sides that are left, is what all cuts leave.
-use Prim.Native.Nat.{ℕ}
-use mathlib.Core.Path.{_∙_}
+-- The loop keeps `Round` and `Ahead`: what the cuts so far leave, cut by the sides that are left, is what all cuts leave; and the sides that come
+-- next stand in the batch.
+use mathlib.Core.Path.{sym, _∙_}
 use native.Mathlib.Omega.{arith}
-use lib.ListN.{length, replicate, length-replicate}
+use lib.ListN.{length, length-replicate}
 use borrow.Author.Needs.{needs}
 use Rattle.vector.specs.Rounded.{float}
-use Rattle.hull_links.specs.Links.{faceRing}
-use Rattle.clip_corners.specs.Places.{Roomy, cornersIn}
-use Rattle.clip.specs.Candidates.{cutRound}
-use Rattle.hull.proofs.Hulls.{byte}
-use Rattle.clip.proofs.Rings.{leftOf, Round, half-most, halves, begun, left-of-built, round-begins, cut-roomy, round-full, round-few}
-use Rattle.clip.proofs.Rings.{round-back, round-goes, round-shorter}
+use Rattle.hull_links.specs.Links.{next, faceRing}
+use Rattle.hull.proofs.Hulls.{byte, below, at-next}
+use Rattle.clip_corners.specs.Places.{cornersIn}
+use Rattle.clip.specs.Candidates.{sidePlaneOf, cutRound}
+use Rattle.clip.specs.inner.Batches.{sidesFrom}
+use Rattle.clip.proofs.Batches.{Ahead, ahead-filled, ahead-here, ahead-next}
+use Rattle.clip.proofs.Rings.{leftOf, Round, Turned, begun, left-of-built, round-begins, round-cut, round-full, round-few, round-back}
+use Rattle.clip.proofs.Rings.{round-goes, round-shorter}
 use Rattle.clip.proofs.clip_to_face.Statement.{statement}
 use Rattle.clip.proofs.clip_to_face.Tie as tie
 
-cleared : Roomy (replicate 512 (float 0)) (replicate 512 0)
-cleared = record { numbers-room = length-replicate 512 (float 0); tags-room = length-replicate {A = ℕ} 512 0 }
-
 abbrev Inv-loop : tie.InvT-loop
-Inv-loop numbers-a links-a size-a face numbers-b links-b incident reference start places₀ tags₀ n₀ p₀ e₀ places tags n p e =
+Inv-loop numbers-a links-a size-a face numbers-b links-b incident places₀ tags₀ reference start sides₀ n₀ p₀ e₀ k₀ places tags sides n p e k =
     Round size-a numbers-a links-a face start (cutRound size-a numbers-a links-a face (faceRing size-a links-a face) (cornersIn places₀ tags₀ 0 n₀))
     places tags p n e
+    × Ahead (sidePlaneOf size-a numbers-a links-a (reference .normal)) (next size-a links-a) start sides k e
 
 abbrev μ-loop : tie.MeasureT-loop
-μ-loop numbers-a links-a size-a face numbers-b links-b incident reference start places₀ tags₀ n₀ p₀ e₀ places tags n p e =
+μ-loop numbers-a links-a size-a face numbers-b links-b incident places₀ tags₀ reference start sides₀ n₀ p₀ e₀ k₀ places tags sides n p e k =
     length (leftOf size-a links-a start e)
 
--- a cut leaves the lists as long as they were
-room-after : (k : tie.After-clip-polygon Inv-loop μ-loop) → Roomy (k .clip-polygon .last .0) (k .clip-polygon .last .1 .0)
-room-after k = let s = k .before .before .before .before .before .before .before .before .before .before .before .before .before .before .before .before in
-    cut-roomy _ _ _ (s .pre .0) _ (s .pre .2) _
-    (k .before .before .before .before .before .before .before .before .before .before .face-edge .ensures) _ _ _ _ _ _
-    (k .before .before .before .before .loop .inv) _ _
-    (k .before .before .before .before .before .before .before .before .before .before .before .plane-at .ensures)
-    (k .before .before .before .side-plane .ensures) _ _ _ (k .clip-polygon .ensures)
+-- what the loop knows behind a cut
+abbrev Turned-at : tie.After-cut-side Inv-loop μ-loop → Type 0
+Turned-at k =
+    let a = k .before .before .before .before .before .before .before .before .before .before .before .before .before .before .before .before .before
+    .before .before .before .before .before .before .before .args in
+    let built = k .before .before .before .before .before .before .before .before .before .before .build-polygon in
+    Turned (a .size-a) (a .numbers-a .now) (a .links-a .now) (a .face) (k .before .before .before .before .before .before .before .before .before
+    .before .before .before .before .before .before .before .face-edge .result)
+    (cutRound (a .size-a) (a .numbers-a .now) (a .links-a .now) (a .face) (faceRing (a .size-a) (a .links-a .now) (a .face))
+    (cornersIn (built .last .1 .1 .1 .1 .1 .1 .0) (built .last .1 .1 .1 .1 .1 .1 .1 .0) 0 (built .result)))
+    (k .cut-side .last .0) (k .cut-side .last .1 .0) (k .cut-side .result) (k .before .before .before .before .before .loop .e)
+
+turned : (k : tie.After-cut-side Inv-loop μ-loop) → Turned-at k
+turned k = let s = k .before .before .before .before .before .before .before .before .before .before .before .before .before .before .before .before
+    .before .before .before .before .before .before .before .before in
+    let i = k .before .before .before .before .before .loop .inv in
+    round-cut _ _ _ (s .pre .0) _ (s .pre .2) _ (k .before .before .before .before .before .before .before .before .before .before .before .before
+    .before .before .before .before .face-edge .ensures) _ _ _ _ _ _ (i .0) _ _
+    (k .before .before .before .before .before .before .before .before .before .before .before .before .before .before .before .before .before
+    .plane-at .ensures) (k .before .before .before .side-in .ensures ∙ ahead-here _ _ _ _ _ _ (i .1)) _ _ _ (k .cut-side .ensures)
 
 plane-at-requires : tie.Need-plane-at-requires Inv-loop μ-loop
 plane-at-requires c κs = search needs
@@ -41,147 +53,149 @@ plane-at-requires c κs = search needs
 face-edge-requires : tie.Need-face-edge-requires Inv-loop μ-loop
 face-edge-requires c κs = search needs
 
-slice-aggregate-build-polygon : tie.Need-slice-aggregate-build-polygon Inv-loop μ-loop
-slice-aggregate-build-polygon c = search needs
+slice-aggregate-fill-sides : tie.Need-slice-aggregate-fill-sides Inv-loop μ-loop
+slice-aggregate-fill-sides c = search needs
 
-slice-aggregate-build-polygon-2 : tie.Need-slice-aggregate-build-polygon-2 Inv-loop μ-loop
-slice-aggregate-build-polygon-2 c = search needs
+fill-sides-requires : tie.Need-fill-sides-requires Inv-loop μ-loop
+fill-sides-requires c κs = let s = c .before .before .before .before .before .before .before .before .before in
+    (s .pre .0, below _ _ _ (c .before .face-edge .ensures) (s .pre .0 .face-edge-in _ (s .pre .2)), length-replicate 64 (float 0))
 
 build-polygon-requires : tie.Need-build-polygon-requires Inv-loop μ-loop
-build-polygon-requires c κs = (
-  c .before .before .before .before .before .before .before .before .pre .1,
-  c .before .before .before .before .before .before .before .before .pre .3,
-  cleared,
-)
+build-polygon-requires c κs = let s = c .before .before .before .before .before .before .before .before .before .before .before .before .before in
+    (s .pre .1, s .pre .3, s .pre .4)
 
 loop-holds : tie.Need-loop-holds Inv-loop μ-loop
-loop-holds c = let s = c .before .before .before .before .before .before .before .before .before .before .before in
-    round-begins _ _ _ (s .pre .0) _ (s .pre .2) _ (c .before .before .before .before .before .face-edge .ensures) _ _ _ _
-    (begun _ _ _ _ _ _ _ _ _ _ _ cleared (c .before .before .build-polygon .ensures))
+unfolding sidesFrom
+loop-holds c = let s = c .before .before .before .before .before .before .before .before .before .before .before .before .before .before .before
+    .before .before .before in (
+      round-begins _ _ _ (s .pre .0) _ (s .pre .2) _ (c .before .before .before .before .before .before .before .before .before .before .face-edge
+          .ensures) _ _ _ _
+          (begun _ _ _ _ _ _ _ _ _ _ _ (s .pre .4) (c .before .before .before .before .build-polygon .ensures)),
+      ahead-filled _ _ _ _ _ _ (length-replicate 64 (float 0)) (c .before .before .before .before .before .before .before .before .fill-sides .ensures),
+    )
 
-side-plane-requires : tie.Need-side-plane-requires Inv-loop μ-loop
-side-plane-requires c κs = (
-  c .before .before .before .before .before .before .before .before .before .before .before .before .pre .0,
-  c .loop .inv .here .low,
-)
+slice-aggregate-side-in : tie.Need-slice-aggregate-side-in Inv-loop μ-loop
+slice-aggregate-side-in c = omega (arith, c .before .loop .inv .1 .room)
 
-sub-q : tie.Need-sub-q Inv-loop μ-loop
-sub-q c = omega (arith, half-most _ (c .before .loop .inv .half))
+side-in-requires : tie.Need-side-in-requires Inv-loop μ-loop
+side-in-requires c κs = (c .before .loop .inv .1 .room, c .before .loop .inv .1 .low)
 
-slice-aggregate-clip-polygon : tie.Need-slice-aggregate-clip-polygon Inv-loop μ-loop
-slice-aggregate-clip-polygon c = omega (arith, c .before .before .loop .inv .room .numbers-room)
-
-slice-aggregate-clip-polygon-2 : tie.Need-slice-aggregate-clip-polygon-2 Inv-loop μ-loop
-slice-aggregate-clip-polygon-2 c = omega (arith, c .before .before .before .loop .inv .room .tags-room)
-
-cast-clip-polygon : tie.Need-cast-clip-polygon Inv-loop μ-loop
-cast-clip-polygon c = let b = byte _ _ _
-    (c .before .before .before .before .before .before .before .before .before .before .before .before .before .before .before .pre .0) _
-    (c .before .before .before .loop .inv .here .low) in
+cast-cut-side : tie.Need-cast-cut-side Inv-loop μ-loop
+cast-cut-side c = let b = byte _ _ _ (c .before .before .before .before .before .before .before .before .before .before .before .before .before
+    .before .before .before .before .before .before .before .before .before .before .pre .0) _
+    (c .before .before .before .before .loop .inv .0 .here .low) in
     omega (arith, b)
 
-clip-polygon-requires : tie.Need-clip-polygon-requires Inv-loop μ-loop
-clip-polygon-requires c κs = let i = c .before .before .before .loop .inv in
-    (i .room, halves _ (i .half), i .some, i .most)
+cut-side-requires : tie.Need-cut-side-requires Inv-loop μ-loop
+cut-side-requires c κs = let i = c .before .before .before .before .loop .inv .0 in
+    (i .room, i .half, i .some, i .most)
 
-slice-aggregate-packed : tie.Need-slice-aggregate-packed Inv-loop μ-loop
-slice-aggregate-packed c = omega (arith, room-after (c .before .before .before .before) .numbers-room)
+same-length : tie.Need-same-length Inv-loop μ-loop
+same-length c = let k = c .before .before .before .before .before .before in
+    k .cut-side .ensures .0 .roomy .numbers-room ∙ sym (k .before .before .before .before .before .before .before .before .before .before .before
+    .before .before .before .before .before .before .before .before .before .before .before .before .before .pre .4 .numbers-room)
 
-slice-aggregate-packed-2 : tie.Need-slice-aggregate-packed-2 Inv-loop μ-loop
-slice-aggregate-packed-2 c = omega (arith, room-after (c .before .before .before .before .before) .tags-room)
-
-packed-requires : tie.Need-packed-requires Inv-loop μ-loop
-packed-requires c κs = (room-after (c .before .before .before .before .before), omega arith)
+same-length-2 : tie.Need-same-length-2 Inv-loop μ-loop
+same-length-2 c = let k = c .before .before .before .before .before .before in
+    k .cut-side .ensures .0 .roomy .tags-room ∙ sym (k .before .before .before .before .before .before .before .before .before .before .before
+    .before .before .before .before .before .before .before .before .before .before .before .before .before .pre .4 .tags-room)
 
 returns : tie.Need-returns Inv-loop μ-loop
-returns c = let s = c .before .before .before .before .before .before .before .before .before .before .before .before .before .before .before
+returns c = let k = c .before .before .before .before .before .before in
+    let s = k .before .before .before .before .before .before .before .before .before .before .before .before .before .before .before .before .before
     .before .before .before .before .before .before .before in
-    let k = c .before .before .before .before .before .before in
-    round-full _ _ _ (s .pre .0) _ (s .pre .2) _
-    (k .before .before .before .before .before .before .before .before .before .before .face-edge .ensures) _ _ _ _ _ _
-    (k .before .before .before .before .loop .inv) _ _
-    (k .before .before .before .before .before .before .before .before .before .before .before .plane-at .ensures)
-    (k .before .before .before .side-plane .ensures) _ _ _ (k .clip-polygon .ensures) _ (c .packed .ensures)
-    (c .before .before .before .if1 .taken)
-    ∙ left-of-built _ _ _ _ _ _ _ _ _ _ _ _ _ _
-    (begun _ _ _ _ _ _ _ _ _ _ _ cleared (k .before .before .before .before .before .before .before .build-polygon .ensures))
-    (k .before .before .before .before .before .before .before .before .before .before .before .plane-at .ensures)
+    left-of-built _ _ _ _ _ _ _ _ _ _ _ _ _ _
+    (begun _ _ _ _ _ _ _ _ _ _ _ (s .pre .4) (k .before .before .before .before .before .before .before .before .before .before .build-polygon
+    .ensures)) (k .before .before .before .before .before .before .before .before .before .before .before .before .before .before .before .before
+    .before .plane-at .ensures) _ _ _
+    (round-full _ _ _ (s .pre .0) _ (s .pre .2) _ (k .before .before .before .before .before .before .before .before .before .before .before .before
+    .before .before .before .before .face-edge .ensures) _ _ _ _ _ (turned k) (c .if1 .taken))
 
-slice-aggregate-packed-3 : tie.Need-slice-aggregate-packed-3 Inv-loop μ-loop
-slice-aggregate-packed-3 c = omega (arith, room-after (c .before .before .before .before .before) .numbers-room)
+same-length-3 : tie.Need-same-length-3 Inv-loop μ-loop
+same-length-3 c = let k = c .before .before .before .before .before .before .before .before in
+    k .cut-side .ensures .0 .roomy .numbers-room ∙ sym (k .before .before .before .before .before .before .before .before .before .before .before
+    .before .before .before .before .before .before .before .before .before .before .before .before .before .pre .4 .numbers-room)
 
-slice-aggregate-packed-4 : tie.Need-slice-aggregate-packed-4 Inv-loop μ-loop
-slice-aggregate-packed-4 c = omega (arith, room-after (c .before .before .before .before .before .before) .tags-room)
-
-packed-requires-2 : tie.Need-packed-requires-2 Inv-loop μ-loop
-packed-requires-2 c κs = (room-after (c .before .before .before .before .before .before), omega arith)
+same-length-4 : tie.Need-same-length-4 Inv-loop μ-loop
+same-length-4 c = let k = c .before .before .before .before .before .before .before .before in
+    k .cut-side .ensures .0 .roomy .tags-room ∙ sym (k .before .before .before .before .before .before .before .before .before .before .before
+    .before .before .before .before .before .before .before .before .before .before .before .before .before .pre .4 .tags-room)
 
 returns-2 : tie.Need-returns-2 Inv-loop μ-loop
-returns-2 c = let s = c .before .before .before .before .before .before .before .before .before .before .before .before .before .before
-    .before .before .before .before .before .before .before .before .before in
-    let k = c .before .before .before .before .before .before .before in
-    round-few _ _ _ (s .pre .0) _ (s .pre .2) _
-    (k .before .before .before .before .before .before .before .before .before .before .face-edge .ensures) _ _ _ _ _ _
-    (k .before .before .before .before .loop .inv) _ _
-    (k .before .before .before .before .before .before .before .before .before .before .before .plane-at .ensures)
-    (k .before .before .before .side-plane .ensures) _ _ _ (k .clip-polygon .ensures) _ (c .packed2 .ensures)
-    (c .before .before .before .if2 .taken)
-    ∙ left-of-built _ _ _ _ _ _ _ _ _ _ _ _ _ _
-    (begun _ _ _ _ _ _ _ _ _ _ _ cleared (k .before .before .before .before .before .before .before .build-polygon .ensures))
-    (k .before .before .before .before .before .before .before .before .before .before .before .plane-at .ensures)
+returns-2 c = let k = c .before .before .before .before .before .before .before .before in
+    let s = k .before .before .before .before .before .before .before .before .before .before .before .before .before .before .before .before .before
+    .before .before .before .before .before .before .before in
+    left-of-built _ _ _ _ _ _ _ _ _ _ _ _ _ _
+    (begun _ _ _ _ _ _ _ _ _ _ _ (s .pre .4) (k .before .before .before .before .before .before .before .before .before .before .build-polygon
+    .ensures)) (k .before .before .before .before .before .before .before .before .before .before .before .before .before .before .before .before
+    .before .plane-at .ensures) _ _ _
+    (round-few _ _ _ (s .pre .0) _ (s .pre .2) _ (k .before .before .before .before .before .before .before .before .before .before .before .before
+    .before .before .before .before .face-edge .ensures) _ _ _ _ _ (turned k) (c .if2 .taken))
 
 next-of-requires : tie.Need-next-of-requires Inv-loop μ-loop
-next-of-requires c κs = (
-  c .before .before .before .before .before .before .before .before .before .before .before .before .before .before
-      .before .before .before .before .before .before .pre .0 .links-fit,
-  c .before .before .before .before .before .before .before .before .loop .inv .here .low,
+next-of-requires c κs = let k = c .before .before .before .before .before .before .before .before in (
+  k .before .before .before .before .before .before .before .before .before .before .before .before .before .before .before .before .before
+      .before .before .before .before .before .before .before .pre .0 .links-fit,
+  k .before .before .before .before .before .loop .inv .0 .here .low,
 )
 
-slice-aggregate-packed-5 : tie.Need-slice-aggregate-packed-5 Inv-loop μ-loop
-slice-aggregate-packed-5 c = omega (arith, room-after (c .before .before .before .before .before .before .before) .numbers-room)
+same-length-5 : tie.Need-same-length-5 Inv-loop μ-loop
+same-length-5 c = let k = c .before .before .before .before .before .before .before .before .before .before in
+    k .cut-side .ensures .0 .roomy .numbers-room ∙ sym (k .before .before .before .before .before .before .before .before .before .before .before
+    .before .before .before .before .before .before .before .before .before .before .before .before .before .pre .4 .numbers-room)
 
-slice-aggregate-packed-6 : tie.Need-slice-aggregate-packed-6 Inv-loop μ-loop
-slice-aggregate-packed-6 c = omega (arith, room-after (c .before .before .before .before .before .before .before .before) .tags-room)
-
-packed-requires-3 : tie.Need-packed-requires-3 Inv-loop μ-loop
-packed-requires-3 c κs = (room-after (c .before .before .before .before .before .before .before .before), omega arith)
+same-length-6 : tie.Need-same-length-6 Inv-loop μ-loop
+same-length-6 c = let k = c .before .before .before .before .before .before .before .before .before .before in
+    k .cut-side .ensures .0 .roomy .tags-room ∙ sym (k .before .before .before .before .before .before .before .before .before .before .before
+    .before .before .before .before .before .before .before .before .before .before .before .before .before .pre .4 .tags-room)
 
 returns-3 : tie.Need-returns-3 Inv-loop μ-loop
-returns-3 c = let s = c .before .before .before .before .before .before .before .before .before .before .before .before .before .before
-    .before .before .before .before .before .before .before .before .before .before .before in
-    let k = c .before .before .before .before .before .before .before .before .before in
-    round-back _ _ _ (s .pre .0) _ (s .pre .2) _
-    (k .before .before .before .before .before .before .before .before .before .before .face-edge .ensures) _ _ _ _ _ _
-    (k .before .before .before .before .loop .inv) _ _
-    (k .before .before .before .before .before .before .before .before .before .before .before .plane-at .ensures)
-    (k .before .before .before .side-plane .ensures) _ _ _ (k .clip-polygon .ensures)
-    (c .before .before .before .before .before .before .if1 .left) (c .before .before .before .before .before .if2 .left) _
-    (c .before .before .before .before .next-of .ensures) _ (c .packed3 .ensures) (c .before .before .before .if3 .taken)
-    ∙ left-of-built _ _ _ _ _ _ _ _ _ _ _ _ _ _
-    (begun _ _ _ _ _ _ _ _ _ _ _ cleared (k .before .before .before .before .before .before .before .build-polygon .ensures))
-    (k .before .before .before .before .before .before .before .before .before .before .before .plane-at .ensures)
+returns-3 c = let k = c .before .before .before .before .before .before .before .before .before .before in
+    let s = k .before .before .before .before .before .before .before .before .before .before .before .before .before .before .before .before .before
+    .before .before .before .before .before .before .before in
+    left-of-built _ _ _ _ _ _ _ _ _ _ _ _ _ _
+    (begun _ _ _ _ _ _ _ _ _ _ _ (s .pre .4) (k .before .before .before .before .before .before .before .before .before .before .build-polygon
+    .ensures)) (k .before .before .before .before .before .before .before .before .before .before .before .before .before .before .before .before
+    .before .plane-at .ensures) _ _ _
+    (round-back _ _ _ (s .pre .0) _ (s .pre .2) _ (k .before .before .before .before .before .before .before .before .before .before .before .before
+    .before .before .before .before .face-edge .ensures) _ _ _ _ _ (turned k)
+    (c .before .before .before .before .if1 .left) (c .before .before .if2 .left) _ (c .before .next-of .ensures) (c .if3 .taken))
+
+slice-aggregate-next-side : tie.Need-slice-aggregate-next-side Inv-loop μ-loop
+slice-aggregate-next-side c = omega (
+  arith,
+  c .before .before .before .before .before .before .before .before .before .before .before .before .before
+      .before .before .before .loop .inv .1 .room,
+)
+
+next-side-requires : tie.Need-next-side-requires Inv-loop μ-loop
+next-side-requires c κs = let k = c .before .before .before .before .before .before .before .before .before .before .before in
+    let i = k .before .before .before .before .before .loop .inv in
+    let ok = k .before .before .before .before .before .before .before .before .before .before .before .before .before .before .before .before
+    .before .before .before .before .before .before .before .before .pre .0 in
+    (ok, at-next _ _ _ ok _ (i .0 .here .low) _ (c .before .before .next-of .ensures) .1, i .1 .room, i .1 .low)
 
 loop-less : tie.Need-loop-less Inv-loop μ-loop
-loop-less c = let s = c .before .before .before .before .before .before .before .before .before .before .before .before .before .before
-    .before .before .before .before .before .before .before .before in
-    let k = c .before .before .before .before .before .before in
-    round-shorter _ _ _ (s .pre .0) _ (s .pre .2) _
-    (k .before .before .before .before .before .before .before .before .before .before .face-edge .ensures) _ _ _ _ _ _
-    (k .before .before .before .before .loop .inv) _ _
-    (k .before .before .before .before .before .before .before .before .before .before .before .plane-at .ensures)
-    (k .before .before .before .side-plane .ensures) _ _ _ (k .clip-polygon .ensures) (c .before .before .before .if1 .left)
-    (c .before .before .if2 .left) _ (c .before .next-of .ensures) (c .if3 .left)
+loop-less c = let k = c .before .before .before .before .before .before .before .before .before .before .before .before .before in
+    let s = k .before .before .before .before .before .before .before .before .before .before .before .before .before .before .before .before .before
+    .before .before .before .before .before .before .before in
+    round-shorter _ _ _ (s .pre .0) _ (s .pre .2) _ (k .before .before .before .before .before .before .before .before .before .before .before
+    .before .before .before .before .before .face-edge .ensures) _ _ _ _ _ (turned k)
+    (c .before .before .before .before .before .before .before .if1 .left) (c .before .before .before .before .before .if2 .left) _
+    (c .before .before .before .before .next-of .ensures) (c .before .before .before .if3 .left)
 
 loop-again : tie.Need-loop-again Inv-loop μ-loop
-loop-again c = let s = c .before .before .before .before .before .before .before .before .before .before .before .before .before .before
-    .before .before .before .before .before .before .before .before in
-    let k = c .before .before .before .before .before .before in
-    round-goes _ _ _ (s .pre .0) _ (s .pre .2) _
-    (k .before .before .before .before .before .before .before .before .before .before .face-edge .ensures) _ _ _ _ _ _
-    (k .before .before .before .before .loop .inv) _ _
-    (k .before .before .before .before .before .before .before .before .before .before .before .plane-at .ensures)
-    (k .before .before .before .side-plane .ensures) _ _ _ (k .clip-polygon .ensures) (c .before .before .before .if1 .left)
-    (c .before .before .if2 .left) _ (c .before .next-of .ensures) (c .if3 .left)
+unfolding sidesFrom
+loop-again c = let k = c .before .before .before .before .before .before .before .before .before .before .before .before .before in
+    let s = k .before .before .before .before .before .before .before .before .before .before .before .before .before .before .before .before .before
+    .before .before .before .before .before .before .before in (
+      round-goes _ _ _ (s .pre .0) _ (s .pre .2) _ (k .before .before .before .before .before .before .before .before .before .before .before .before
+          .before .before .before .before .face-edge .ensures) _ _ _ _ _ (turned k)
+          (c .before .before .before .before .before .before .before .if1 .left) (c .before .before .before .before .before .if2 .left) _
+          (c .before .before .before .before .next-of .ensures) (c .before .before .before .if3 .left),
+      ahead-next _ _ _ _ _ _ (k .before .before .before .before .before .loop .inv .1) _ (c .before .before .before .before .next-of .ensures)
+          (c .before .before .before .if3 .left) _ _ (c .before .next-side .ensures),
+    )
 
 pub clip-to-face-spec : {M : Type 1} → statement M
 clip-to-face-spec =
@@ -191,28 +205,25 @@ clip-to-face-spec =
     μ-loop
     plane-at-requires
     face-edge-requires
-    slice-aggregate-build-polygon
-    slice-aggregate-build-polygon-2
+    slice-aggregate-fill-sides
+    fill-sides-requires
     build-polygon-requires
     loop-holds
-    side-plane-requires
-    sub-q
-    slice-aggregate-clip-polygon
-    slice-aggregate-clip-polygon-2
-    cast-clip-polygon
-    clip-polygon-requires
-    slice-aggregate-packed
-    slice-aggregate-packed-2
-    packed-requires
+    slice-aggregate-side-in
+    side-in-requires
+    cast-cut-side
+    cut-side-requires
+    same-length
+    same-length-2
     returns
-    slice-aggregate-packed-3
-    slice-aggregate-packed-4
-    packed-requires-2
+    same-length-3
+    same-length-4
     returns-2
     next-of-requires
-    slice-aggregate-packed-5
-    slice-aggregate-packed-6
-    packed-requires-3
+    same-length-5
+    same-length-6
     returns-3
+    slice-aggregate-next-side
+    next-side-requires
     loop-less
     loop-again)

@@ -1,16 +1,12 @@
--- `collide_core`: capacity and refusals pick the definition's case; where none is given, the work may begin.
+-- `collide_core`: the capacity and the judged hulls pick the definition's case.
 use mathlib.Core.Path.{_≡_, sym, ap, _∙_}
 use mathlib.Core.Bool.{true, false}
-use Prim.Native.Nat.{ℕ}
-use lib.IntN.{pos}
 use lib.Signed.{ltZ}
 use lib.IntN.{ℤ, pos}
 use borrow.Author.Needs.{needs}
 use Rattle.manifold.specs.declared.Contact.{Contact}
-use Rattle.collide_refusals.specs.Refusals.{refusalOf}
-use Rattle.collide_outcome.specs.Answers.{accepted, refusedOf}
-use Rattle.collide_refusals.proofs.Cases.{unrefused}
-use Rattle.collide.proofs.Steps.{too-small, call-refused, call-worked}
+use Rattle.collide_outcome.specs.Answers.{accepted}
+use Rattle.collide.proofs.Steps.{too-small, broken-a, broken-b, wide-same, cleared}
 use mir.Syntax.{w32}
 use mir.Val.{toZ, ofZ}
 use mir.ValLaws.{toZ-ofZ}
@@ -35,36 +31,51 @@ returns c = let s = c .before .before .before .before .before .before .before in
     ∙ too-small (a .size-a) (a .numbers-a .now) (a .links-a .now) (a .size-b) (a .numbers-b .now) (a .links-b .now) (a .transform)
     (a .cache) (a .capacity) small
 
-first-refusal-requires : tie.Need-first-refusal-requires
-first-refusal-requires c κs = search needs
+first-broken-rule-requires : tie.Need-first-broken-rule-requires
+first-broken-rule-requires c κs = search needs
 
 refused-requires : tie.Need-refused-requires
 refused-requires c κs = search needs
 
 returns-2 : tie.Need-returns-2
-returns-2 c = let s = c .before .before .before .before .before .before .before .before in
-    let a = s .args in
-    let wide : ltZ (a .capacity) (pos 4) ≡ false = as-compared s ∙ c .before .before .before .if1 .left in
-    let first = c .before .before .first-refusal in
-    let given : refusalOf (a .size-a) (a .numbers-a .now) (a .links-a .now) (a .size-b) (a .numbers-b .now) (a .links-b .now) (a .transform)
-    (a .cache) ≡ 0 → ⊥ = λ q. c .before .if2 .taken (first .ensures ∙ q) in
-    c .refused .ensures ∙ ap (λ (number : ℕ). refusedOf number (a .cache)) (first .ensures) ∙ call-refused (a .size-a) (a .numbers-a .now)
-    (a .links-a .now) (a .size-b) (a .numbers-b .now) (a .links-b .now) (a .transform) (a .cache) (a .capacity) wide given
+returns-2 c = let s = c .before .before .before .before .before .before .before .before in let a = s .args in
+    c .refused .ensures ∙ broken-a (a .size-a) (a .numbers-a .now) (a .links-a .now) (a .size-b) (a .numbers-b .now) (a .links-b .now) (a .transform)
+    (a .cache)
+    (a .capacity) (as-compared s ∙ c .before .before .before .if1 .left) (λ q. c .before .if2 .taken (c .before .before .first-broken-rule .ensures ∙ q))
 
-worked-requires : tie.Need-worked-requires
-worked-requires c κs = let a = c .before .before .before .before .before .before .before .args in
-    let none : refusalOf (a .size-a) (a .numbers-a .now) (a .links-a .now) (a .size-b) (a .numbers-b .now) (a .links-b .now) (a .transform)
-    (a .cache) ≡ 0 = sym (c .before .first-refusal .ensures) ∙ c .if2 .left in
-    unrefused (a .size-a) (a .numbers-a .now) (a .links-a .now) (a .size-b) (a .numbers-b .now) (a .links-b .now) (a .transform) (a .cache) none
+first-broken-rule-requires-2 : tie.Need-first-broken-rule-requires-2
+first-broken-rule-requires-2 c κs = search needs
+
+refused-requires-2 : tie.Need-refused-requires-2
+refused-requires-2 c κs = search needs
 
 returns-3 : tie.Need-returns-3
-returns-3 c = let s = c .before .before .before .before .before .before .before .before in
-    let a = s .args in
-    let wide : ltZ (a .capacity) (pos 4) ≡ false = as-compared s ∙ c .before .before .before .if1 .left in
-    let none : refusalOf (a .size-a) (a .numbers-a .now) (a .links-a .now) (a .size-b) (a .numbers-b .now) (a .links-b .now) (a .transform)
-    (a .cache) ≡ 0 = sym (c .before .before .first-refusal .ensures) ∙ c .before .if2 .left in
-    c .worked .ensures ∙ call-worked (a .size-a) (a .numbers-a .now) (a .links-a .now) (a .size-b) (a .numbers-b .now) (a .links-b .now)
-    (a .transform) (a .cache) (a .capacity) wide none
+returns-3 c = let s = c .before .before .before .before .before .before .before .before .before .before in let a = s .args in
+    c .refused2 .ensures ∙ broken-b (a .size-a) (a .numbers-a .now) (a .links-a .now) (a .size-b) (a .numbers-b .now) (a .links-b .now) (a .transform)
+    (a .cache)
+    (a .capacity) (as-compared s ∙ c .before .before .before .before .before .if1 .left) (sym
+    (c .before .before .before .before .first-broken-rule .ensures) ∙ c .before .before .before .if2 .left)
+    (λ q. c .before .if3 .taken (c .before .before .first-broken-rule2 .ensures ∙ q))
+
+slice-aggregate-collide-judged : tie.Need-slice-aggregate-collide-judged
+slice-aggregate-collide-judged c = search needs
+
+slice-aggregate-collide-judged-2 : tie.Need-slice-aggregate-collide-judged-2
+slice-aggregate-collide-judged-2 c = search needs
+
+collide-judged-requires : tie.Need-collide-judged-requires
+collide-judged-requires c κs = (
+  sym (c .before .before .before .before .before .first-broken-rule .ensures)
+      ∙ c .before .before .before .before .if2 .left,
+  sym (c .before .before .before .first-broken-rule2 .ensures) ∙ c .before .before .if3 .left,
+  cleared,
+)
+
+returns-4 : tie.Need-returns-4
+returns-4 c = let s = c .before .before .before .before .before .before .before .before .before .before .before .before .before .before in let a = s .args in
+    c .before .before .collide-judged .ensures .0 ∙ wide-same (a .size-a) (a .numbers-a .now) (a .links-a .now) (a .size-b) (a .numbers-b .now)
+    (a .links-b .now)
+    (a .transform) (a .cache) (a .capacity) (as-compared s ∙ c .before .before .before .before .before .before .before .before .before .if1 .left)
 
 pub collide-core-spec : {M : Type 1} → statement M
 collide-core-spec =
@@ -73,8 +84,13 @@ collide-core-spec =
     empty-contact-requires
     accepted-with-requires
     returns
-    first-refusal-requires
+    first-broken-rule-requires
     refused-requires
     returns-2
-    worked-requires
-    returns-3)
+    first-broken-rule-requires-2
+    refused-requires-2
+    returns-3
+    slice-aggregate-collide-judged
+    slice-aggregate-collide-judged-2
+    collide-judged-requires
+    returns-4)

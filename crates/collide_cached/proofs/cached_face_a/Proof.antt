@@ -12,22 +12,22 @@ use Rattle.collide_cached.proofs.cached_face_a.Statement.{statement}
 use Rattle.collide_cached.proofs.cached_face_a.Tie as tie
 
 -- the vertex that is found, and the test, are the definition's
-vertex-is : (c : tie.After-support-vertex) → let g = c .before .before .before .before .before .before .before .before .before .args in
+vertex-is : (c : tie.After-support-vertex) → let g = c .before .before .before .before .before .before .before .before .before .before .before .args in
     c .support-vertex .result ≡ deepestBelowA (g .size-a) (now (g .numbers-a)) (g .size-b) (now (g .numbers-b)) (g .transform) (g .cache .«index_a»)
 unfolding deepestBelowA
-vertex-is c = let g = c .before .before .before .before .before .before .before .before .before .args in
+vertex-is c = let g = c .before .before .before .before .before .before .before .before .before .before .before .args in
     is-deepest (g .size-a) (now (g .numbers-a)) (g .size-b) (now (g .numbers-b)) (invRotateOf (g .transform .q)) (transformPointOf (g .transform))
     (g .cache .«index_a»)
     _ (c .before .before .before .plane-at .ensures) _ (c .before .before .inv-rotate-vector .ensures) _ (c .before .neg .ensures) _
     (c .support-vertex .ensures)
 
 test-is : (c : tie.After-speculative-distance) → let g =
-    c .before .before .before .before .before .before .before .before .before .before .before .before .before .args in
+    c .before .before .before .before .before .before .before .before .before .before .before .before .before .before .before .args in
     Ieee.le (c .speculative-distance .result) (c .before .plane-separation .result) ≡ Ieee.le (speculative (g .size-a .unit))
     (separationFromA (g .size-a) (now (g .numbers-a)) (g .size-b) (now (g .numbers-b)) (g .transform) (g .cache .«index_a»))
 unfolding separationFromA deepestBelowA
 test-is c = let z = c .before .before .before .before in
-    let g = z .before .before .before .before .before .before .before .before .before .args in
+    let g = z .before .before .before .before .before .before .before .before .before .before .before .args in
     off-face (g .size-a) (now (g .numbers-a)) (g .size-b) (now (g .numbers-b)) (invRotateOf (g .transform .q)) (transformPointOf (g .transform))
     (g .cache .«index_a»)
     _ (z .before .before .before .plane-at .ensures) _ (z .before .before .inv-rotate-vector .ensures) _ (z .before .neg .ensures) _
@@ -51,7 +51,7 @@ support-vertex-requires : tie.Need-support-vertex-requires
 support-vertex-requires c κs = search needs
 
 vertex-at-requires : tie.Need-vertex-at-requires
-vertex-at-requires c κs = at-support _ _ _ (c .before .before .before .before .before .before .before .before .before .pre .1) _ _
+vertex-at-requires c κs = at-support _ _ _ (c .before .before .before .before .before .before .before .before .before .before .before .pre .1) _ _
     (c .support-vertex .ensures)
 
 transform-point-requires : tie.Need-transform-point-requires
@@ -70,25 +70,42 @@ hit-with-requires : tie.Need-hit-with-requires
 hit-with-requires c κs = search needs
 
 returns : tie.Need-returns
-returns c = a-far _ _ _ _ _ _ _ _ _ (test-is (c .before .before .before)) (c .before .before .if1 .taken) _ (c .before .empty-contact .ensures)
-    _ (c .hit-with .ensures)
+returns c = (
+  a-far _ _ _ _ _ _ _ _ _ (test-is (c .before .before .before)) (c .before .before .if1 .taken) _ (c .before .empty-contact .ensures) _
+      (c .hit-with .ensures),
+  c .before .before .before .before .before .before .before .before .before .before .before .before .before .before .before
+      .before .before .before .pre .3,
+)
 
 cast-build-face-a-contact : tie.Need-cast-build-face-a-contact
 cast-build-face-a-contact c = let b =
-    support-byte _ _ _ (c .before .before .before .before .before .before .before .before .before .before .before .before .before .before .pre .1)
+    support-byte _ _ _ (c .before .before .before .before .before .before .before .before .before .before .before .before .before .before .before .before
+    .pre .1)
     _ _ (c .before .before .before .before .before .support-vertex .ensures) in
     omega (arith, b)
 
 build-face-a-contact-requires : tie.Need-build-face-a-contact-requires
-build-face-a-contact-requires c κs = c .before .before .before .before .before .before .before .before .before .before .before .before .before .before .pre
+build-face-a-contact-requires c κs = c .before .before .before .before .before .before .before .before .before .before .before .before .before .before
+    .before .before .before .before .pre
 
 served-requires : tie.Need-served-requires
 served-requires c κs = search needs
 
+same-length : tie.Need-same-length
+same-length c = search needs
+
+same-length-2 : tie.Need-same-length-2
+same-length-2 c = search needs
+
 returns-2 : tie.Need-returns-2
-returns-2 c = a-close _ _ _ _ _ _ _ _ _ (test-is (c .before .before .before)) (c .before .before .if1 .left) _
-    (vertex-is (c .before .before .before .before .before .before .before))
-    _ (c .before .build-face-a-contact .ensures) _ (c .served .ensures)
+returns-2 c = (
+  a-close _ _ _ _ _ _ _ _ _ (test-is (c .before .before .before .before .before .before .before .before .before))
+      (c .before .before .before .before .before .before .before .before .if1 .left) _ (vertex-is
+      (c .before .before .before .before .before .before .before .before .before .before .before .before .before)) _
+      (c .before .before .before .before .before .build-face-a-contact .ensures .0)
+      _ (c .served .ensures),
+  c .before .before .before .before .before .build-face-a-contact .ensures .1,
+)
 
 pub cached-face-a-spec : {M : Type 1} → statement M
 cached-face-a-spec =
@@ -109,4 +126,6 @@ cached-face-a-spec =
     cast-build-face-a-contact
     build-face-a-contact-requires
     served-requires
+    same-length
+    same-length-2
     returns-2)

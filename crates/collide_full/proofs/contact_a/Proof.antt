@@ -7,9 +7,16 @@ use Rattle.collide_full.proofs.contact_a.Tie as tie
 build-face-a-contact-requires : tie.Need-build-face-a-contact-requires
 build-face-a-contact-requires c κs = search needs
 
+same-length : tie.Need-same-length
+same-length c = search needs
+
+same-length-2 : tie.Need-same-length-2
+same-length-2 c = search needs
+
 returns : tie.Need-returns
 unfolding contactA
-returns c = c .build-face-a-contact .ensures
+returns c = c .before .before .before .before .build-face-a-contact .ensures
 
 pub contact-a-spec : {M : Type 1} → statement M
-contact-a-spec = tie.close (tie.spec build-face-a-contact-requires returns)
+contact-a-spec =
+    tie.close (tie.spec build-face-a-contact-requires same-length same-length-2 returns)

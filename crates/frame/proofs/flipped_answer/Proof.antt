@@ -1,6 +1,6 @@
 -- Refusal 8, or the pair.
 use mathlib.Core.Path.{refl}
-use Rattle.frame_encode.proofs.Written.{then}
+use Rattle.lists.proofs.Written.{then}
 use Rattle.frame.proofs.Puts.{put, answers-same, flip-refused, flip-done}
 use borrow.Author.Needs.{needs}
 use Rattle.frame.proofs.flipped_answer.Statement.{statement}
@@ -15,8 +15,8 @@ same-length c = search needs
 returns : tie.Need-returns
 returns c = answers-same (c .before .before .put-fault .ensures) (flip-refused _ (c .before .before .before .before .if1 .taken))
 
-put-byte-requires : tie.Need-put-byte-requires
-put-byte-requires c κs = search needs
+write-byte-requires : tie.Need-write-byte-requires
+write-byte-requires c κs = search needs
 
 put-pair-requires : tie.Need-put-pair-requires
 put-pair-requires c κs = search needs
@@ -25,7 +25,7 @@ same-length-2 : tie.Need-same-length-2
 same-length-2 c = search needs
 
 returns-2 : tie.Need-returns-2
-returns-2 c = answers-same (put (then (c .before .before .before .before .before .before .before .put-byte .ensures)
+returns-2 c = answers-same (put (then (c .before .before .before .before .before .before .before .write-byte .ensures)
     (c .before .before .put-pair .ensures) refl) (search needs) refl)
     (flip-done _ (c .before .before .before .before .before .before .before .before .before .if1 .left))
 
@@ -36,7 +36,7 @@ flipped-answer-spec =
     put-fault-requires
     same-length
     returns
-    put-byte-requires
+    write-byte-requires
     put-pair-requires
     same-length-2
     returns-2)

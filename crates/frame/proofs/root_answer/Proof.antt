@@ -3,7 +3,7 @@ use mathlib.Core.Path.{refl, ap, _∙_}
 use mathlib.Core.List.{_∷_}
 use Rattle.root.specs.Root.{rootOf}
 use Rattle.frame_encode.specs.Bytes.{floatBytes}
-use Rattle.frame_encode.proofs.Written.{then}
+use Rattle.lists.proofs.Written.{then}
 use Rattle.frame.proofs.Puts.{put, answers-same, root-short, root-whole}
 use borrow.Author.Needs.{needs}
 use Rattle.frame.proofs.root_answer.Statement.{statement}
@@ -18,8 +18,8 @@ same-length c = search needs
 returns : tie.Need-returns
 returns c = answers-same (c .before .before .put-fault .ensures) (root-short _ (c .before .before .before .before .if1 .taken))
 
-put-byte-requires : tie.Need-put-byte-requires
-put-byte-requires c κs = search needs
+write-byte-requires : tie.Need-write-byte-requires
+write-byte-requires c κs = search needs
 
 float-at-requires : tie.Need-float-at-requires
 float-at-requires c κs = search needs
@@ -34,7 +34,7 @@ same-length-2 : tie.Need-same-length-2
 same-length-2 c = search needs
 
 returns-2 : tie.Need-returns-2
-returns-2 c = answers-same (put (then (c .before .before .before .before .before .before .before .before .put-byte .ensures)
+returns-2 c = answers-same (put (then (c .before .before .before .before .before .before .before .before .write-byte .ensures)
     (c .before .before .put-float .ensures) refl) (search needs) refl)
     (ap (λ x. 0x90 ∷ floatBytes x) (c .before .before .before .before .root .ensures .1
     ∙ ap rootOf (c .before .before .before .before .before .float-at .ensures))
@@ -47,7 +47,7 @@ root-answer-spec =
     put-fault-requires
     same-length
     returns
-    put-byte-requires
+    write-byte-requires
     float-at-requires
     root-requires
     put-float-requires

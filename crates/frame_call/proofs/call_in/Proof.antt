@@ -4,7 +4,7 @@ use native.Mathlib.Omega.{arith}
 use mir.Syntax.{w32}
 use mir.ValLaws.{toZ-ofZ}
 use borrow.Author.Needs.{needs}
-use Rattle.frame_encode.proofs.Written.{wrote-length}
+use Rattle.lists.proofs.Written.{wrote-length}
 use Rattle.frame_call.proofs.Calls.{taken-inside, taken-first, taken-long, links-at, a-inside, head-inside, call-is}
 use Rattle.frame_call.proofs.call_in.Statement.{statement}
 use Rattle.frame_call.proofs.call_in.Tie as tie

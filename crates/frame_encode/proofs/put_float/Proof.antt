@@ -1,7 +1,7 @@
 -- The bits of the float.
 use mathlib.Core.Path.{ap}
 use Rattle.frame_encode.specs.Bytes.{bytes32}
-use Rattle.frame_encode.proofs.Written.{wrote-same}
+use Rattle.lists.proofs.Written.{wrote-same}
 use borrow.Author.Needs.{needs}
 use Rattle.frame_encode.proofs.put_float.Statement.{statement}
 use Rattle.frame_encode.proofs.put_float.Tie as tie

@@ -1,49 +1,49 @@
 -- The four bytes of a tag.
 use mathlib.Core.Path.{refl}
-use Rattle.frame_encode.proofs.Written.{then}
+use Rattle.lists.proofs.Written.{then}
 use borrow.Author.Needs.{needs}
 use Rattle.frame_encode.proofs.put_pair.Statement.{statement}
 use Rattle.frame_encode.proofs.put_pair.Tie as tie
 
-put-byte-requires : tie.Need-put-byte-requires
-put-byte-requires c κs = search needs
+write-byte-requires : tie.Need-write-byte-requires
+write-byte-requires c κs = search needs
 
-add-put-byte : tie.Need-add-put-byte
-add-put-byte c = search needs
+add-write-byte : tie.Need-add-write-byte
+add-write-byte c = search needs
 
-put-byte-requires-2 : tie.Need-put-byte-requires-2
-put-byte-requires-2 c κs = search needs
+write-byte-requires-2 : tie.Need-write-byte-requires-2
+write-byte-requires-2 c κs = search needs
 
-add-put-byte-2 : tie.Need-add-put-byte-2
-add-put-byte-2 c = search needs
+add-write-byte-2 : tie.Need-add-write-byte-2
+add-write-byte-2 c = search needs
 
-put-byte-requires-3 : tie.Need-put-byte-requires-3
-put-byte-requires-3 c κs = search needs
+write-byte-requires-3 : tie.Need-write-byte-requires-3
+write-byte-requires-3 c κs = search needs
 
-add-put-byte-3 : tie.Need-add-put-byte-3
-add-put-byte-3 c = search needs
+add-write-byte-3 : tie.Need-add-write-byte-3
+add-write-byte-3 c = search needs
 
-put-byte-requires-4 : tie.Need-put-byte-requires-4
-put-byte-requires-4 c κs = search needs
+write-byte-requires-4 : tie.Need-write-byte-requires-4
+write-byte-requires-4 c κs = search needs
 
 same-length : tie.Need-same-length
 same-length c = search needs
 
 returns : tie.Need-returns
 returns c = then (then (then (c .before .before .before .before .before .before .before .before .before .before .before .before .before
-    .before .put-byte .ensures) (c .before .before .before .before .before .before .before .before .before .before .put-byte2 .ensures) refl)
-    (c .before .before .before .before .before .before .put-byte3 .ensures) refl) (c .before .before .put-byte4 .ensures) refl
+    .before .write-byte .ensures) (c .before .before .before .before .before .before .before .before .before .before .write-byte2 .ensures) refl)
+    (c .before .before .before .before .before .before .write-byte3 .ensures) refl) (c .before .before .write-byte4 .ensures) refl
 
 pub put-pair-spec : {M : Type 1} → statement M
 put-pair-spec =
     tie.close
     (tie.spec
-    put-byte-requires
-    add-put-byte
-    put-byte-requires-2
-    add-put-byte-2
-    put-byte-requires-3
-    add-put-byte-3
-    put-byte-requires-4
+    write-byte-requires
+    add-write-byte
+    write-byte-requires-2
+    add-write-byte-2
+    write-byte-requires-3
+    add-write-byte-3
+    write-byte-requires-4
     same-length
     returns)

@@ -1,6 +1,6 @@
 -- Position, separation and tag.
 use mathlib.Core.Path.{refl}
-use Rattle.frame_encode.proofs.Written.{then}
+use Rattle.lists.proofs.Written.{then}
 use borrow.Author.Needs.{needs}
 use Rattle.frame_encode.proofs.put_point.Statement.{statement}
 use Rattle.frame_encode.proofs.put_point.Tie as tie

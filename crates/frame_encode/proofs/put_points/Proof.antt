@@ -1,6 +1,6 @@
 -- Four points, one behind the other.
 use mathlib.Core.Path.{refl}
-use Rattle.frame_encode.proofs.Written.{then}
+use Rattle.lists.proofs.Written.{then}
 use borrow.Author.Needs.{needs}
 use Rattle.frame_encode.proofs.put_points.Statement.{statement}
 use Rattle.frame_encode.proofs.put_points.Tie as tie

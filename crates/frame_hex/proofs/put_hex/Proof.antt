@@ -3,7 +3,7 @@ use borrow.Author.Needs.{needs}
 use Prim.Native.Nat.{_≤_, _-_}
 use mathlib.Core.Path.{_≡_}
 use lib.ListN.{length, take}
-use Rattle.frame_encode.specs.Written.{Wrote}
+use Rattle.lists.specs.Written.{Wrote}
 use Rattle.frame_hex.specs.Hex.{hexOf}
 use Rattle.frame_hex.proofs.Bytes.{hex-begun, hex-turned, hex-ended}
 use Rattle.frame_hex.proofs.put_hex.Statement.{statement}
@@ -21,26 +21,26 @@ loop-holds c = (search needs, search needs, hex-begun (c .before .before .args .
 shared-slice-read-b : tie.Need-shared-slice-read-b Inv-loop μ-loop
 shared-slice-read-b c = search needs
 
-mul-put-byte : tie.Need-mul-put-byte Inv-loop μ-loop
-mul-put-byte c = search needs
+mul-write-byte : tie.Need-mul-write-byte Inv-loop μ-loop
+mul-write-byte c = search needs
 
 high-digit-requires : tie.Need-high-digit-requires Inv-loop μ-loop
 high-digit-requires c κs = search needs
 
-put-byte-requires : tie.Need-put-byte-requires Inv-loop μ-loop
-put-byte-requires c κs = search needs
+write-byte-requires : tie.Need-write-byte-requires Inv-loop μ-loop
+write-byte-requires c κs = search needs
 
-mul-put-byte-2 : tie.Need-mul-put-byte-2 Inv-loop μ-loop
-mul-put-byte-2 c = search needs
+mul-write-byte-2 : tie.Need-mul-write-byte-2 Inv-loop μ-loop
+mul-write-byte-2 c = search needs
 
-add-put-byte : tie.Need-add-put-byte Inv-loop μ-loop
-add-put-byte c = search needs
+add-write-byte : tie.Need-add-write-byte Inv-loop μ-loop
+add-write-byte c = search needs
 
 low-digit-requires : tie.Need-low-digit-requires Inv-loop μ-loop
 low-digit-requires c κs = search needs
 
-put-byte-requires-2 : tie.Need-put-byte-requires-2 Inv-loop μ-loop
-put-byte-requires-2 c κs = search needs
+write-byte-requires-2 : tie.Need-write-byte-requires-2 Inv-loop μ-loop
+write-byte-requires-2 c κs = search needs
 
 add-i : tie.Need-add-i Inv-loop μ-loop
 add-i c = search needs
@@ -56,7 +56,7 @@ loop-again c = (
       .bytes .now) (c .before .before .before .before .before .before .before .before .before .before .before .before .loop .i) (search needs)
       (c .before .before .before .before .before .before .before .before .before .before .before .before .loop .inv .2)
       (c .before .before .before .before .before .before .before .before .high-digit .ensures) (c .before .before .before .low-digit .ensures)
-      (c .before .before .before .before .before .before .before .put-byte .ensures) (c .before .before .put-byte2 .ensures),
+      (c .before .before .before .before .before .before .before .write-byte .ensures) (c .before .before .write-byte2 .ensures),
 )
 
 same-length : tie.Need-same-length Inv-loop μ-loop
@@ -73,13 +73,13 @@ put-hex-spec =
     μ-loop
     loop-holds
     shared-slice-read-b
-    mul-put-byte
+    mul-write-byte
     high-digit-requires
-    put-byte-requires
-    mul-put-byte-2
-    add-put-byte
+    write-byte-requires
+    mul-write-byte-2
+    add-write-byte
     low-digit-requires
-    put-byte-requires-2
+    write-byte-requires-2
     add-i
     loop-less
     loop-again

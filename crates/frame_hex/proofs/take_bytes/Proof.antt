@@ -1,11 +1,11 @@
-use Rattle.frame_decode.proofs.Tables.{begun, turned-front, ended}
+use Rattle.lists.proofs.Tables.{begun, turned-front, ended}
 -- Each turn writes one byte behind those that stand.
 use borrow.Author.Needs.{needs}
 use Prim.Native.Nat.{_≤_, _-_, _/_}
 use mathlib.Core.Path.{_≡_}
 use lib.ListN.{length, length-set}
-use Rattle.frame_encode.specs.Written.{Wrote}
-use Rattle.frame_decode.specs.Fields.{table}
+use Rattle.lists.specs.Written.{Wrote}
+use Rattle.lists.specs.Written.{table}
 use Rattle.frame_hex.specs.Hex.{byteOf}
 use Rattle.frame_hex.proofs.take_bytes.Statement.{statement}
 use Rattle.frame_hex.proofs.take_bytes.Tie as tie

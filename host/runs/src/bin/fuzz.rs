@@ -1,5 +1,5 @@
 //! Any bytes through the library that hosts link: frames changed a little or much and bytes at random, into places of
-//! every size, each answer compared with the one that document 01 wants.
+//! every size, each answer compared with the one that document 01 wants; and one round in eight any lists through its step.
 //!
 //!     fuzz [MINUTES [SEED [ROUND]]]
 //!

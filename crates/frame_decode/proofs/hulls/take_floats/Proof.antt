@@ -3,9 +3,9 @@ use borrow.Author.Needs.{needs}
 use Prim.Native.Nat.{_≤_, _-_, _+_, _*_}
 use mathlib.Core.Path.{_≡_}
 use lib.ListN.{length, length-set}
-use Rattle.frame_encode.specs.Written.{Wrote}
+use Rattle.lists.specs.Written.{Wrote}
 use Rattle.frame_decode.specs.Fields.{floatAt, floatsAt}
-use Rattle.frame_decode.proofs.Tables.{begun, turned, ended}
+use Rattle.lists.proofs.Tables.{begun, turned, ended}
 use Rattle.frame_decode.proofs.hulls.take_floats.Statement.{statement}
 use Rattle.frame_decode.proofs.hulls.take_floats.Tie as tie
 

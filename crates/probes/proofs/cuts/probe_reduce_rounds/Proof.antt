@@ -2,9 +2,10 @@
 use Prim.Native.Nat.{_-_, _≤_}
 use mathlib.Core.Path.{ap}
 use native.Mathlib.Omega.{arith}
+use Rattle.vector.specs.Awaited.{arbitraryPerpOf}
 use Rattle.units.specs.Limits.{speculative}
 use Rattle.manifold.specs.declared.Contact.{Contact}
-use Rattle.manifold.specs.Polygons.{cornersOf}
+use Rattle.reduce_scores.specs.Images.{imagesIn}
 use Rattle.reduce_points.specs.Points.{contactOf}
 use Rattle.reduce.specs.Reduce.{firstPicks, pointsOf}
 use Rattle.probes.proofs.Rounds.{Summed, none-summed, one-more, all-summed, four-most}
@@ -13,11 +14,11 @@ use Rattle.probes.proofs.cuts.probe_reduce_rounds.Statement.{statement}
 use Rattle.probes.proofs.cuts.probe_reduce_rounds.Tie as tie
 
 abbrev Inv-loop : tie.InvT-loop
-Inv-loop unit images normal direction rounds total₀ i₀ total i =
-    (i ≤ rounds) × Summed (contactOf normal (pointsOf (firstPicks (speculative unit) direction normal (cornersOf images)) (cornersOf images)) .count) total i
+Inv-loop unit places tags from n normal rounds total₀ i₀ total i = (i ≤ rounds) × (let images = imagesIn normal places tags from n in
+    Summed (contactOf normal (pointsOf (firstPicks (speculative unit) (arbitraryPerpOf normal) normal images) images) .count) total i)
 
 abbrev μ-loop : tie.MeasureT-loop
-μ-loop unit images normal direction rounds total₀ i₀ total i = rounds - i
+μ-loop unit places tags from n normal rounds total₀ i₀ total i = rounds - i
 
 loop-holds : tie.Need-loop-holds Inv-loop μ-loop
 loop-holds c = (omega arith, none-summed _)
@@ -31,7 +32,7 @@ cast-total c = search needs
 add-total : tie.Need-add-total Inv-loop μ-loop
 add-total c = let l = c .before .before .before in
     let few = four-most _ _ _ _ _ (c .before .reduce-manifold-points .ensures) in
-    omega (arith, few, l .loop .inv .1 .most, l .loop .inv .0, l .before .pre .1)
+    omega (arith, few, l .loop .inv .1 .most, l .loop .inv .0, l .before .before .before .pre .3)
 
 add-i : tie.Need-add-i Inv-loop μ-loop
 add-i c = search needs

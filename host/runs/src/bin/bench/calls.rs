@@ -17,12 +17,17 @@ use runs::broken_rule;
 const COLD_BATCHES: usize = 100;
 const WARM_BATCHES: usize = 20;
 
-/// A call in the records of both sides, and its answer.
-struct Timed<'a> {
-    class: Class,
+/// A call in the records of both sides.
+pub struct Both<'a> {
     ours: Call<'a>,
     theirs: (&'a HullData, &'a HullData, reading::Transform),
     cache: open::SatCache,
+}
+
+/// The same with its class and its answer.
+struct Timed<'a> {
+    class: Class,
+    both: Both<'a>,
     answer: Answer,
 }
 
@@ -35,19 +40,28 @@ impl<'a> Timed<'a> {
         let (a, b) = settled.hulls(step);
         Timed {
             class: step.class(),
+            both: Both::new(ours, a, b),
+            answer,
+        }
+    }
+}
+
+impl<'a> Both<'a> {
+    /// The call, and its hulls in the text's records.
+    pub fn new(ours: Call<'a>, a: &'a HullData, b: &'a HullData) -> Self {
+        Both {
             ours,
             theirs: (a, b, convert::transform(ours.transform)),
             cache: convert::cache(ours.cache),
-            answer,
         }
     }
 
     /// How many points.
-    fn ours(&self) -> usize {
+    pub fn ours(&self) -> usize {
         runs::ours(&self.ours).outcome.contact.count.into()
     }
 
-    fn theirs(&self, manifold: &mut LocalManifold) -> usize {
+    pub fn theirs(&self, manifold: &mut LocalManifold) -> usize {
         let (a, b, transform) = self.theirs;
         let mut cache = self.cache;
         collide_hulls(manifold, self.ours.capacity, a, b, transform, &mut cache);
@@ -76,7 +90,8 @@ pub fn run(settled: &Settled) {
 
 fn rows(batches: usize, calls: &[Timed]) {
     for class in Class::ALL {
-        let of_class: Vec<&Timed> = calls.iter().filter(|call| call.class == class).collect();
+        let of_class = calls.iter().filter(|call| call.class == class);
+        let of_class: Vec<&Both> = of_class.map(|call| &call.both).collect();
         let [ours, theirs, _] = times(batches, &of_class);
         row(
             &format!("{}, {}", class.name(), of_class.len()),
@@ -84,7 +99,8 @@ fn rows(batches: usize, calls: &[Timed]) {
             theirs,
         );
     }
-    let [ours, theirs, judging] = times(batches, &calls.iter().collect::<Vec<_>>());
+    let all: Vec<&Both> = calls.iter().map(|call| &call.both).collect();
+    let [ours, theirs, judging] = times(batches, &all);
     row("the whole mix", ours, theirs);
     row("less judging both hulls", ours - judging, theirs);
     println!("  judging both hulls {judging:.2}; least of {batches} batches");
@@ -92,7 +108,7 @@ fn rows(batches: usize, calls: &[Timed]) {
 }
 
 /// Nanoseconds a call: ours, the text's, and judging both hulls.
-fn times(batches: usize, calls: &[&Timed]) -> [f64; 3] {
+fn times(batches: usize, calls: &[&Both]) -> [f64; 3] {
     let mut manifold = LocalManifold::default();
     let (mut points, mut their_points, mut good) = (0, 0, 0);
     let least = least_of(
@@ -125,7 +141,7 @@ fn times(batches: usize, calls: &[&Timed]) -> [f64; 3] {
 fn mix(calls: &[Timed]) {
     let points = |call: &Timed| usize::from(call.answer.outcome.contact.count);
     let hit = |call: &Timed| call.answer.cache.hit == 1;
-    let cached = |call: &Timed| (2..=4).contains(&call.ours.cache.kind);
+    let cached = |call: &Timed| (2..=4).contains(&call.both.ours.cache.kind);
     let how_many = |wanted: &dyn Fn(&Timed) -> bool| calls.iter().filter(|c| wanted(c)).count();
     println!(
         "  hits without points {}, with points {}; misses {}; full searches without a cached axis {}",

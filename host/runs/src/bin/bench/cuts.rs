@@ -1,7 +1,7 @@
-//! Cuts, reductions and the candidates of a face contact beside the Rust text. A cut is lent its lists. Reductions are
-//! timed inside the library, round after round on one input, as the routine itself calls them, and once more with the
-//! polygon handed over by value; the text's side is a call through a door that is not inlined. How many corners or points
-//! come out is the same on both sides.
+//! Cuts, reductions and the candidates of a face contact beside the Rust text. Each is lent its lists. Reductions are
+//! timed inside the library, round after round on one input, as the routine itself calls them, and once more a call each;
+//! the text's side is a call through a door that is not inlined. Ours makes the images where it reads them, the text is
+//! handed them. How many corners or points come out is the same on both sides.
 
 use super::{head, line, timed};
 use cases::convert;
@@ -10,13 +10,11 @@ use cases::shapes::solids::{block, frame, frustum, polygon};
 use cases::shapes::Shape;
 use cases::Numbers;
 use oracle::hull::HullData;
-use oracle::math_functions::{self as reading, arbitrary_perp, dot};
+use oracle::math_functions::{self as reading, dot};
 use oracle::open::{search, Buffers, LocalManifoldPoint, Prepared};
 use oracle::transcribed::FaceCuts;
-use probes::{
-    Accepted, ClipVertex, FeaturePair, Places, Plane, Polygon, Quat, Transform, Unit, Vec3,
-};
-use runs::corners;
+use probes::{Accepted, ClipVertex, FeaturePair, Kept, Places, Plane, Quat, Transform, Unit, Vec3};
+use runs::{corners, images};
 use std::cell::RefCell;
 use std::f64::consts::TAU;
 
@@ -36,7 +34,7 @@ pub fn run(numbers: &mut Numbers) {
     for corners in [4, 6, 8, 12, 16, 32] {
         cuts(corners, numbers);
     }
-    for (rounds, how) in [(ROUNDS, "inside"), (1, "by value")] {
+    for (rounds, how) in [(ROUNDS, "inside"), (1, "a call each")] {
         head(&format!("a reduction, {how}"), "Rust text");
         for candidates in [5, 8, 16, 32, 60] {
             reductions(candidates, rounds, numbers);
@@ -122,7 +120,7 @@ fn cuts(size: usize, n: &mut Numbers) {
             heights.sort_by(f32::total_cmp);
             let (high, second) = (heights[size - 1], heights[size - 2]);
             Cut {
-                places: RefCell::new(Places::new(&Polygon::new(&corners))),
+                places: RefCell::new(Places::new(&corners)),
                 prepared: Prepared::new(&corners::corners(&corners)),
                 plane: Plane {
                     normal: outward,
@@ -151,22 +149,24 @@ fn cuts(size: usize, n: &mut Numbers) {
 }
 
 struct Reduction {
-    polygon: Polygon,
+    places: Places,
     points: Vec<LocalManifoldPoint>,
     normal: Vec3,
-    direction: Vec3,
 }
 
 fn reductions(size: usize, rounds: usize, n: &mut Numbers) {
+    let kept = Kept {
+        from: 0,
+        count: size,
+    };
     let inputs: Vec<Reduction> = (0..INPUTS)
         .map(|_| {
             let (candidates, reference) = round(size, n);
             let normal = reference.normal;
             Reduction {
-                polygon: Polygon::new(&candidates),
-                points: corners::points(&candidates),
+                places: Places::new(&candidates),
+                points: corners::points(&images(&candidates, normal)),
                 normal,
-                direction: convert::ours(arbitrary_perp(convert::vector(normal))),
             }
         })
         .collect();
@@ -177,11 +177,10 @@ fn reductions(size: usize, rounds: usize, n: &mut Numbers) {
         &inputs,
         |r| match rounds {
             1 => {
-                let contact =
-                    probes::reduce_manifold_points(METRES, &r.polygon, r.normal, r.direction);
+                let contact = r.places.reduce_manifold_points(METRES, kept, r.normal);
                 contact.count.into()
             }
-            _ => probes::reduce_rounds(METRES, &r.polygon, r.normal, r.direction, rounds),
+            _ => r.places.reduce_rounds(METRES, kept, r.normal, rounds),
         },
         |r| {
             let normal = convert::vector(r.normal);
@@ -202,14 +201,14 @@ fn candidates(what: &str, shape: &Shape, place: fn(&mut Numbers) -> Transform, n
     let hull = convert::hull(shape);
     let lent = Accepted::new(&shape.numbers, &shape.links, shape.size).expect("a good hull");
     let inputs: Vec<Placed> = (0..INPUTS).map(|_| placed(&hull, place(n))).collect();
-    let mut cuts = FaceCuts::<64>::default();
+    let (mut places, mut cuts) = (Places::default(), FaceCuts::<64>::default());
     both(
         what,
         1,
         &inputs,
         |p| {
-            let left = probes::candidates(lent, lent, p.transform, p.face, p.vertex);
-            left.polygon.count
+            let kept = places.candidates(lent, lent, p.transform, p.face, p.vertex);
+            kept.count
         },
         |p| {
             let transform = convert::transform(p.transform);

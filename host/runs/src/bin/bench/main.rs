@@ -1,10 +1,11 @@
 //! Times the proved layers beside the Rust, both sides in one run on the same inputs, and prints nanoseconds a call and
 //! their ratio. The least of many batches counts, since other work on the machine only ever adds.
 //!
-//!     bench [quick] [-- PROGRAM [ARGUMENTS]]
+//!     bench [quick] [PART]... [--chart FILE] [-- PROGRAM [ARGUMENTS]]
 //!
 //! PROGRAM is the proved program, `target/bin/contact` where none is named. With `quick` there is one batch of each, to see
-//! that all of it runs; its times mean nothing.
+//! that all of it runs; its times mean nothing. Where parts are named, only these are timed: roots, validators, cuts, axes, calls,
+//! answers, programs, steps, growth. With FILE the growth is drawn there, as SVG.
 
 use cases::Numbers;
 use std::env::args;
@@ -18,41 +19,101 @@ mod axes;
 #[cfg(rust_text)]
 mod calls;
 #[cfg(rust_text)]
+mod chart;
+#[cfg(rust_text)]
 mod cuts;
+#[cfg(rust_text)]
+mod growth;
 #[cfg(rust_text)]
 mod programs;
 mod roots;
 #[cfg(rust_text)]
 mod settled;
+#[cfg(rust_text)]
+mod steps;
 mod validators;
 
 const CALLS: usize = 1024;
 const BATCHES: usize = 600;
 
+const PARTS: [&str; 9] = [
+    "roots",
+    "validators",
+    "cuts",
+    "axes",
+    "calls",
+    "answers",
+    "programs",
+    "steps",
+    "growth",
+];
+
 fn main() {
+    let words: Vec<String> = words().collect();
+    let file = words.iter().position(|word| word == "--chart");
+    let file = file.map(|place| place + 1);
+    let parts = words.iter().enumerate().filter(|&(place, word)| {
+        let other = word == "quick" || word == "--chart" || Some(place) == file;
+        !other
+    });
+    let parts: Vec<&str> = parts.map(|(_, word)| word.as_str()).collect();
+    let unknown = parts.iter().find(|part| !PARTS.contains(part));
+    if unknown.is_some() || file.is_some_and(|place| place >= words.len()) {
+        eprintln!("usage: bench [quick] [PART]... [--chart FILE] [-- PROGRAM [ARGUMENTS]]; parts: {PARTS:?}");
+        std::process::exit(2);
+    }
+    let timed = |part: &str| parts.is_empty() || parts.contains(&part);
+
     let mut numbers = Numbers::new(1);
     println!("least of {} batches, ns a call", batches(BATCHES));
-    roots::run(&mut numbers);
-    validators::run(&mut numbers);
+    if timed("roots") {
+        roots::run(&mut numbers);
+    }
+    if timed("validators") {
+        validators::run(&mut numbers);
+    }
     #[cfg(rust_text)]
     {
-        cuts::run(&mut numbers);
-        axes::run(&mut numbers);
-        let settled = settled::Settled::new(&mut numbers);
-        calls::run(&settled);
-        answers::run(&settled);
-        let named: Vec<String> = args().skip_while(|word| word != "--").skip(1).collect();
-        programs::run(&settled, &named, &mut numbers);
+        if timed("cuts") {
+            cuts::run(&mut numbers);
+        }
+        if timed("axes") {
+            axes::run(&mut numbers);
+        }
+        if ["calls", "answers", "programs"].into_iter().any(timed) {
+            let settled = settled::Settled::new(&mut numbers);
+            if timed("calls") {
+                calls::run(&settled);
+            }
+            if timed("answers") {
+                answers::run(&settled);
+            }
+            if timed("programs") {
+                let named: Vec<String> = args().skip_while(|word| word != "--").skip(1).collect();
+                programs::run(&settled, &named, &mut numbers);
+            }
+        }
+        // Numbers of their own, so that the same is timed in every run.
+        if timed("steps") {
+            steps::run(&mut Numbers::new(2));
+        }
+        if timed("growth") {
+            let file = file.map(|place| words[place].as_str());
+            growth::run(file, &mut Numbers::new(3));
+        }
     }
     #[cfg(not(rust_text))]
-    println!(
-        "left out, since the Rust text is not at hand: cuts, reductions, candidates, searches, calls, frames, programs"
-    );
+    println!("left out, since the Rust text is not at hand: all parts but roots and validators");
+}
+
+/// The arguments before the program's.
+fn words() -> impl Iterator<Item = String> {
+    args().skip(1).take_while(|word| word != "--")
 }
 
 /// So many, or one where the run is a quick one.
 fn batches(most: usize) -> usize {
-    let quick = args().nth(1).is_some_and(|word| word == "quick");
+    let quick = words().any(|word| word == "quick");
     if quick {
         1
     } else {

@@ -2,7 +2,7 @@
 
 use cases::calls::same_points;
 use cases::same;
-use probes::{ClipVertex, Contact, Point, Polygon, Vec3};
+use probes::{ClipVertex, Contact, Kept, Places, Point, Vec3, MAX_CLIP_POINTS};
 
 fn same_vector(a: Vec3, b: Vec3) -> bool {
     same(a.x, b.x) && same(a.y, b.y) && same(a.z, b.z)
@@ -21,16 +21,18 @@ fn zero(v: &ClipVertex) -> bool {
     bits(v.position) == [0; 3] && v.separation.to_bits() == 0 && pair == [0; 4]
 }
 
-/// Whether the polygon is this list, zeros after it and nothing else.
-pub fn polygon_is(polygon: &Polygon, list: &[ClipVertex]) -> bool {
-    polygon.count == list.len()
-        && list.len() <= polygon.vertices.len()
-        && polygon
-            .vertices
-            .iter()
-            .zip(list)
-            .all(|(a, b)| same_corner(a, b))
-        && polygon.vertices[list.len()..].iter().all(zero)
+/// Whether the corners are this list.
+pub fn corners_are(corners: &[ClipVertex], list: &[ClipVertex]) -> bool {
+    corners.len() == list.len() && corners.iter().zip(list).all(|(a, b)| same_corner(a, b))
+}
+
+/// Whether the 64 places from corner `from` on, zeros before, are this list, zeros after it and nothing else.
+pub fn polygon_is(places: &Places, from: usize, list: &[ClipVertex]) -> bool {
+    let count = MAX_CLIP_POINTS;
+    let all = places.corners(Kept { from, count });
+    list.len() <= count
+        && corners_are(&all[..list.len()], list)
+        && all[list.len()..].iter().all(zero)
 }
 
 /// Whether the contact has these points, places and all, and this normal, which is zero where there are none, and nothing

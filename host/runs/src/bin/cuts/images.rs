@@ -1,35 +1,28 @@
-//! The candidates' images and their least separation beside the loop of hulls.rs, which stands inside
-//! `build_face_a_contact` and is transcribed here over the readings; and whether candidates touch.
+//! The candidates' images and their least separation beside the loop of hulls.rs over the readings; and whether candidates
+//! touch.
 
-use super::hold::polygon_is;
+use super::hold::corners_are;
 use super::lists;
 use cases::shapes::breaks::UNKNOWN_UNITS;
 use cases::sorts::about;
-use cases::{convert, same, Numbers, Tally};
-use oracle::math_functions::{min_float, mul_sub};
+use cases::{same, Numbers, Tally};
+use oracle::math_functions::min_float;
 use probes::{ClipVertex, Unit};
 
 pub fn images(n: &mut Numbers, count: usize) -> Tally {
     let mut t = Tally::default();
     for _ in 0..count {
         let (normal, list) = lists::any(n.unit(), n);
-        let mut min_separation = f32::MAX;
-        let mut points: Vec<ClipVertex> = Vec::new();
-        for clip_point in &list {
-            let position = convert::vector(clip_point.position);
-            let half = 0.5 * clip_point.separation;
-            points.push(ClipVertex {
-                position: convert::ours(mul_sub(position, half, convert::vector(normal))),
-                ..*clip_point
-            });
-            min_separation = min_float(min_separation, clip_point.separation);
-        }
-        let candidates = lists::lent(&list, n);
-        let ours = probes::images(&candidates, normal);
-        t.compare(polygon_is(&ours, &points), || {
+        let points = runs::images(&list, normal);
+        let (places, kept) = lists::lent(&list, n);
+        let all = kept.from..kept.from + kept.count;
+        let ours: Vec<ClipVertex> = all.map(|p| places.image_at(p, normal)).collect();
+        t.compare(corners_are(&ours, &points), || {
             format!("images of {list:?} by {normal:?}: {ours:?}")
         });
-        let least = probes::least_separation(&candidates);
+        let separations = list.iter().map(|v| v.separation);
+        let min_separation = separations.fold(f32::MAX, min_float);
+        let least = places.least_separation(kept);
         t.compare(same(least, min_separation), || {
             format!("least separation of {list:?}: {least}, {min_separation}")
         });

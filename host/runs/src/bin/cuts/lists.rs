@@ -5,7 +5,7 @@ use cases::inputs::{rounded, vector};
 use cases::shapes::solids::frame;
 use cases::sorts::about;
 use cases::Numbers;
-use probes::{ClipVertex, FeaturePair, Polygon, Unit, Vec3};
+use probes::{ClipVertex, FeaturePair, Kept, Places, Unit, Vec3, MAX_CLIP_POINTS};
 use std::f64::consts::TAU;
 
 /// A normal and 0 to 64 candidates in this unit, most of them about a plane across it.
@@ -111,15 +111,27 @@ fn separations(size: usize, unit: Unit, n: &mut Numbers) -> Vec<f32> {
     (0..size).map(|_| separation()).collect()
 }
 
-/// The list as a polygon, with anything in the places after it.
-pub fn lent(list: &[ClipVertex], n: &mut Numbers) -> Polygon {
-    let mut polygon = Polygon::new(list);
-    polygon.vertices[list.len()..].fill(ClipVertex {
+/// The list anywhere in the lists, with one corner, which is any, in all places beside it.
+pub fn lent(list: &[ClipVertex], n: &mut Numbers) -> (Places, Kept) {
+    let mut places = Places::filled(corner(n));
+    let (from, count) = (n.below(1 + MAX_CLIP_POINTS), list.len());
+    places.put(from, list);
+    (places, Kept { from, count })
+}
+
+/// The list as the first polygon, with one corner, which is any, in its places after it, and zeros in the second.
+pub fn first(list: &[ClipVertex], n: &mut Numbers) -> Places {
+    let mut places = Places::new(&[corner(n); MAX_CLIP_POINTS]);
+    places.put(0, list);
+    places
+}
+
+fn corner(n: &mut Numbers) -> ClipVertex {
+    ClipVertex {
         position: vector(n),
         separation: n.float(),
         pair: pair(n),
-    });
-    polygon
+    }
 }
 
 /// Any tag.

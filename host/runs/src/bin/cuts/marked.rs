@@ -3,7 +3,7 @@
 use super::hold::polygon_is;
 use cases::shapes::solids::polygon;
 use cases::Tally;
-use probes::{ClipVertex, Clipped, FeaturePair, Plane, Polygon, Vec3};
+use probes::{ClipVertex, FeaturePair, Kept, Places, Plane, Vec3, MAX_CLIP_POINTS};
 
 /// The half-edge that cuts.
 const EDGE: u8 = 9;
@@ -25,8 +25,8 @@ fn corner(x: f32, y: f32, [owner1, index1, owner2, index2]: [u8; 4]) -> ClipVert
     }
 }
 
-/// Cut to x at most `limit`; the reference face lies in the corners' own plane.
-fn cut(corners: &[ClipVertex], limit: f32) -> Clipped {
+/// Cut to x at most `limit`; the reference face lies in the corners' own plane. The lists, and how many corners are left.
+fn cut(corners: &[ClipVertex], limit: f32) -> (Places, usize) {
     let plane = Plane {
         normal: at(1.0, 0.0),
         offset: limit,
@@ -39,7 +39,9 @@ fn cut(corners: &[ClipVertex], limit: f32) -> Clipped {
         },
         offset: 0.0,
     };
-    probes::clip_polygon(&Polygon::new(corners), plane, EDGE, reference)
+    let mut places = Places::new(corners);
+    let count = places.clip_polygon(corners.len(), plane, EDGE, reference);
+    (places, count)
 }
 
 pub fn rows() -> Tally {
@@ -76,27 +78,21 @@ pub fn rows() -> Tally {
         ("square to -1", square, -1.0, &[]),
         ("diamond to 2", diamond, 2.0, &halved[..]),
     ] {
-        let ours = cut(&corners, limit);
-        t.compare(!ours.full && polygon_is(&ours.polygon, left), || {
-            format!("{what}: {:?}, full {}", ours.polygon.corners(), ours.full)
+        let (places, count) = cut(&corners, limit);
+        let from = MAX_CLIP_POINTS;
+        let equal = count == left.len() && polygon_is(&places, from, left);
+        t.compare(equal, || {
+            let left = places.corners(Kept { from, count });
+            format!("{what}: {left:?}")
         });
     }
-    for (sides, limit, count, full) in [
-        (64, 0.999, 64, true),
-        (64, 2.0, 64, false),
-        (63, 0.999, 64, false),
-    ] {
+    for (sides, limit, left) in [(64, 0.999, 65), (64, 2.0, 64), (63, 0.999, 64)] {
         let round: Vec<ClipVertex> = polygon(sides, 1.0)
             .into_iter()
             .map(|[x, y]| corner(x as f32, y as f32, [0; 4]))
             .collect();
-        let ours = cut(&round, limit);
-        t.compare(ours.full == full && ours.polygon.count == count, || {
-            format!(
-                "{sides}-gon to {limit}: {}, full {}",
-                ours.polygon.count, ours.full
-            )
-        });
+        let (_, count) = cut(&round, limit);
+        t.compare(count == left, || format!("{sides}-gon to {limit}: {count}"));
     }
     t
 }

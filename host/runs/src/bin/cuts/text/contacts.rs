@@ -1,8 +1,7 @@
 //! The candidates of a face contact beside the cuts of the text's `build_face_a_contact`, and from the candidates to
 //! the points beside the text's whole call.
 
-use crate::hold::{contact_is, polygon_is};
-use crate::picks;
+use crate::hold::{contact_is, corners_are};
 use cases::pairs::{self, Pair};
 use cases::{convert, inputs, met, one_in, same, Numbers, Tally};
 use oracle::core::with_length_units;
@@ -11,7 +10,9 @@ use oracle::math_functions::{mul_sv, Quat, Transform};
 use oracle::open::{collide_hulls_placed, search, LocalManifold, SatCache, SeparatingFeature};
 use oracle::quiet;
 use oracle::transcribed::FaceCuts;
-use probes::{ClipVertex, Clipped, Point, MAX_CLIP_POINTS, MAX_MANIFOLD_POINTS};
+use probes::{
+    ClipVertex, FeaturePair, Kept, Places, Point, Vec3, MAX_CLIP_POINTS, MAX_MANIFOLD_POINTS,
+};
 use runs::{accepted, corners};
 
 /// Both hulls in both records.
@@ -100,9 +101,27 @@ fn overflowing(t: Transform, n: &mut Numbers) -> Transform {
     Transform { p: t.p, q }
 }
 
-fn ours(both: &Both, transform: Transform, face: usize, vertex: usize) -> Clipped {
+/// What stands in the lists before: it would show in any corner that is made of it.
+const BEFORE: ClipVertex = ClipVertex {
+    position: Vec3 {
+        x: f32::NAN,
+        y: f32::NAN,
+        z: f32::NAN,
+    },
+    separation: f32::NAN,
+    pair: FeaturePair {
+        owner1: 255,
+        index1: 255,
+        owner2: 255,
+        index2: 255,
+    },
+};
+
+fn ours(both: &Both, transform: Transform, face: usize, vertex: usize) -> (Places, Kept) {
     let (a, b) = (accepted(&both.pair.a), accepted(&both.pair.b));
-    probes::candidates(a, b, convert::our_transform(transform), face, vertex)
+    let mut places = Places::filled(BEFORE);
+    let kept = places.candidates(a, b, convert::our_transform(transform), face, vertex);
+    (places, kept)
 }
 
 /// One comparison. Where the text panics for want of an incident face, it is that the transform is not an accepted one.
@@ -131,19 +150,18 @@ fn candidates(
     let panics =
         quiet(|| FaceCuts::<64>::default().cut(&both.a, &both.b, transform, i, j)).is_none();
     let whole: Vec<ClipVertex> = whole.iter().map(corners::our_corner).collect();
-    let kept = &whole[..whole.len().min(MAX_CLIP_POINTS)];
-    let ours = ours(both, transform, face, vertex);
-    t.compare(
-        ours.full == panics && polygon_is(&ours.polygon, kept),
-        || {
-            let Pair { a, b, .. } = &both.pair;
-            format!(
-                "candidates of {face}, {vertex} by {transform:?}: {ours:?}, {kept:?}: {a:?} {b:?}"
-            )
-        },
-    );
+    let (places, kept) = ours(both, transform, face, vertex);
+    let full = kept.count > MAX_CLIP_POINTS;
+    let same = full || corners_are(&places.corners(kept), &whole);
+    let equal = full == panics && kept.count == whole.len() && same;
+    t.compare(equal, || {
+        let Pair { a, b, .. } = &both.pair;
+        format!(
+            "candidates of {face}, {vertex} by {transform:?}: {kept:?}, {places:?}, {whole:?}: {a:?} {b:?}"
+        )
+    });
     m.full_cuts += u64::from(panics);
-    m.one_or_two += u64::from([1, 2].contains(&kept.len()));
+    m.one_or_two += u64::from([1, 2].contains(&whole.len()));
 }
 
 /// The text's call with its own cache type 6, beside the candidates, their images and the picks; by the copy of the text, for
@@ -168,36 +186,39 @@ fn whole(t: &mut Tally, m: &mut Met, both: &Both, face: usize, vertex: usize) {
         );
         (manifold, cache)
     });
-    let cut = ours(both, transform, face, vertex);
+    let (places, kept) = ours(both, transform, face, vertex);
+    let full = kept.count > MAX_CLIP_POINTS;
     let normal = convert::ours(both.a.planes[face].normal);
-    let least = probes::least_separation(&cut.polygon);
-    let unit = both.pair.unit();
-    let touching = probes::touching(unit.per_metre(), cut.polygon.count, least);
+    let unit = both.pair.unit().per_metre();
+    let least = if full {
+        f32::NAN
+    } else {
+        places.least_separation(kept)
+    };
+    let touching = !full && probes::touching(unit, kept.count, least);
     let equal = match theirs {
-        None => cut.full,
+        None => full,
         Some((manifold, cache)) if touching => {
-            let images = probes::images(&cut.polygon, normal);
-            let contact = picks::contact(unit, &images, normal);
+            let contact = places.reduce_manifold_points(unit, kept, normal);
             let made = &manifold.points[..manifold.point_count as usize];
             let made: Vec<Point> = made.iter().map(convert::our_contact_point).collect();
             let next = (SeparatingFeature::FaceAxisA as u8, face as u8, vertex as u8);
-            !cut.full
-                && contact_is(&contact, convert::ours(manifold.normal), &made)
+            contact_is(&contact, convert::ours(manifold.normal), &made)
                 && same(cache.separation, least)
                 && (cache.type_, cache.index_a, cache.index_b) == next
         }
         Some((manifold, cache)) => {
-            !cut.full
+            !full
                 && manifold.point_count == 0
                 && cache.type_ == SeparatingFeature::InvalidAxis as u8
         }
     };
     t.compare(equal, || {
         let Pair { a, b, .. } = &both.pair;
-        format!("contact of {face}, {vertex} by {transform:?}: {cut:?}, {theirs:?}: {a:?} {b:?}")
+        format!("contact of {face}, {vertex} by {transform:?}: {kept:?}, {places:?}, {theirs:?}: {a:?} {b:?}")
     });
     m.full += u64::from(theirs.is_none());
     m.touching += u64::from(theirs.is_some() && touching);
     m.apart += u64::from(theirs.is_some() && !touching);
-    m.reduced += u64::from(theirs.is_some() && touching && cut.polygon.count > 4);
+    m.reduced += u64::from(theirs.is_some() && touching && kept.count > 4);
 }

@@ -2,6 +2,7 @@
 
 use super::polygons::{any_plane, cutting, tagged, SORTS};
 use crate::hold::polygon_is;
+use crate::lists;
 use cases::{convert, met, one_in, Numbers, Tally};
 use oracle::math_functions::{plane_separation, Plane};
 use oracle::open;
@@ -28,20 +29,22 @@ pub fn run(n: &mut Numbers, count: usize) -> bool {
             let corners = corners(n);
             let reference = any_plane(n);
             let polygon = tagged(&corners, reference, n);
+            let mut places = lists::first(&polygon, n);
             let plane = cutting(&corners, n);
             let edge = n.below(256) as u8;
-            let given = corners::corners(polygon.corners());
+            let given = corners::corners(&polygon);
             let (to, from) = (convert::plane(plane), convert::plane(reference));
             let theirs = open::clip_polygon(&given, to, edge.into(), from);
             let whole = open::clip_polygon_whole(&given, to, edge.into(), from);
             let whole: Vec<ClipVertex> = whole.iter().map(corners::our_corner).collect();
             let kept = &whole[..whole.len().min(MAX_CLIP_POINTS)];
 
-            let ours = probes::clip_polygon(&polygon, plane, edge, reference);
-            let equal = ours.full == theirs.is_none() && polygon_is(&ours.polygon, kept);
+            let left = places.clip_polygon(polygon.len(), plane, edge, reference);
+            let full = left > MAX_CLIP_POINTS;
+            let same = polygon_is(&places, MAX_CLIP_POINTS, kept);
+            let equal = full == theirs.is_none() && left == whole.len() && same;
             t.compare(equal, || {
-                let corners = polygon.corners();
-                format!("{corners:?} cut by {plane:?} on {edge}, {reference:?}: {ours:?}, {kept:?}")
+                format!("{polygon:?} cut by {plane:?} on {edge}, {reference:?}: {left}, {places:?}, {kept:?}")
             });
 
             m.all += u64::from(whole.len() == given.len());
@@ -50,7 +53,7 @@ pub fn run(n: &mut Numbers, count: usize) -> bool {
             m.full += u64::from(theirs.is_none());
             m.just_full += u64::from(whole.len() == MAX_CLIP_POINTS + 1);
             m.brimful += u64::from(whole.len() == MAX_CLIP_POINTS);
-            m.doubled += u64::from(doubles(&whole) > doubles(polygon.corners()));
+            m.doubled += u64::from(doubles(&whole) > doubles(&polygon));
         }
         good &= t.report(&format!("cuts, {name}"));
     }

@@ -1,8 +1,7 @@
-//! The picks beside the text's `reduce_manifold_points`, which carries the place of each candidate that it is handed.
+//! The picks beside the text's `reduce_manifold_points`, which is handed the images and carries the place of each.
 
 use crate::hold::contact_is;
 use crate::lists;
-use crate::picks::contact;
 use cases::{convert, met, one_in, Numbers, Tally};
 use oracle::core::with_length_units;
 use oracle::open;
@@ -37,13 +36,15 @@ pub fn run(n: &mut Numbers, count: usize) -> bool {
     for turn in 0..4 * count {
         let unit = Unit::ALL[turn % 4];
         let (normal, list) = lists::any(unit, n);
-        let points = corners::points(&list);
+        let images = runs::images(&list, normal);
+        let points = corners::points(&images);
         let size = list.len() as i32;
         let theirs = with_length_units(unit.scale(), || {
             open::reduce_manifold_points(convert::vector(normal), &points, size)
         });
         let theirs: Vec<Point> = theirs.iter().map(convert::our_contact_point).collect();
-        let ours = contact(unit, &lists::lent(&list, n), normal);
+        let (places, kept) = lists::lent(&list, n);
+        let ours = places.reduce_manifold_points(unit.per_metre(), kept, normal);
         t.compare(contact_is(&ours, normal, &theirs), || {
             format!("points of {list:?} with normal {normal:?}: {ours:?}, {theirs:?}")
         });
@@ -55,7 +56,7 @@ pub fn run(n: &mut Numbers, count: usize) -> bool {
                 .map(|point| point.place)
                 .eq(0..theirs.len() as u8);
             out_of_order += u64::from(!in_order);
-            twins.add(&list, &theirs);
+            twins.add(&images, &theirs);
         }
     }
     let [none, one, two, three, four] = made;

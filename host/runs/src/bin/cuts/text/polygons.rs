@@ -1,12 +1,12 @@
 //! Polygons to be cut, and planes that cut them.
 
-use crate::lists::{lent, pair};
+use crate::lists::pair;
 use cases::convert;
 use cases::inputs::{rounded, vector};
 use cases::shapes::solids::frame;
 use cases::Numbers;
 use oracle::math_functions::{dot, plane_separation};
-use probes::{ClipVertex, Plane, Polygon, Vec3};
+use probes::{ClipVertex, Plane, Vec3};
 use std::f64::consts::TAU;
 
 /// A name and a maker of corners.
@@ -87,16 +87,15 @@ fn round(
 }
 
 /// The corners with any tags, and their distances from the reference plane.
-pub fn tagged(corners: &[Vec3], reference: Plane, n: &mut Numbers) -> Polygon {
-    let list: Vec<ClipVertex> = corners
+pub fn tagged(corners: &[Vec3], reference: Plane, n: &mut Numbers) -> Vec<ClipVertex> {
+    corners
         .iter()
         .map(|&position| ClipVertex {
             position,
             separation: plane_separation(convert::plane(reference), convert::vector(position)),
             pair: pair(n),
         })
-        .collect();
-    lent(&list, n)
+        .collect()
 }
 
 /// Along an axis, any way, or floats of any sort.

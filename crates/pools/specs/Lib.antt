@@ -1,0 +1,2 @@
+pub mod Pools
+pub mod inner

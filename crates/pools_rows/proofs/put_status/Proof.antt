@@ -1,0 +1,40 @@
+-- Three places, one behind the other.
+use mathlib.Core.Path.{refl}
+use Rattle.lists.proofs.Written.{then}
+use borrow.Author.Needs.{needs}
+use Rattle.pools_rows.proofs.put_status.Statement.{statement}
+use Rattle.pools_rows.proofs.put_status.Tie as tie
+
+write-byte-requires : tie.Need-write-byte-requires
+write-byte-requires c κs = search needs
+
+add-write-byte : tie.Need-add-write-byte
+add-write-byte c = search needs
+
+write-byte-requires-2 : tie.Need-write-byte-requires-2
+write-byte-requires-2 c κs = search needs
+
+add-write-byte-2 : tie.Need-add-write-byte-2
+add-write-byte-2 c = search needs
+
+write-byte-requires-3 : tie.Need-write-byte-requires-3
+write-byte-requires-3 c κs = search needs
+
+same-length : tie.Need-same-length
+same-length c = search needs
+
+returns : tie.Need-returns
+returns c = then (then (c .before .before .before .before .before .before .before .before .before .before .write-byte .ensures)
+    (c .before .before .before .before .before .before .write-byte2 .ensures) refl) (c .before .before .write-byte3 .ensures) refl
+
+pub put-status-spec : {M : Type 1} → statement M
+put-status-spec =
+    tie.close
+    (tie.spec
+    write-byte-requires
+    add-write-byte
+    write-byte-requires-2
+    add-write-byte-2
+    write-byte-requires-3
+    same-length
+    returns)
