@@ -208,14 +208,18 @@ typedef struct {
     size_t points;  /* the points of all pairs together; 0 with CONTACT_NO_ROOM */
 } contact_step_result;
 
+/* A number as a word. One that no word holds becomes the largest word: in lists of fewer places than that nothing begins there and
+   nothing is so long, so the step notes the hull as broken. */
+static inline uint32_t contact_word(size_t number) { return number < UINT32_MAX ? (uint32_t)number : UINT32_MAX; }
+
 /* The words of a hull whose numbers and links begin at these places of the step's lists. */
 static inline void contact_put_hull(uint32_t *words, size_t numbers_at, size_t links_at, contact_size size) {
-    words[0] = (uint32_t)numbers_at;
-    words[1] = (uint32_t)links_at;
-    words[2] = (uint32_t)size.unit;
-    words[3] = (uint32_t)size.vertices;
-    words[4] = (uint32_t)size.half_edges;
-    words[5] = (uint32_t)size.faces;
+    words[0] = contact_word(numbers_at);
+    words[1] = contact_word(links_at);
+    words[2] = contact_word(size.unit);
+    words[3] = contact_word(size.vertices);
+    words[4] = contact_word(size.half_edges);
+    words[5] = contact_word(size.faces);
 }
 
 /* What a step wrote of a pair, as contact_collide would have returned it. `floats` and `bytes` are the step's whole lists. */
