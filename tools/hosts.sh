@@ -54,7 +54,7 @@ fi
 # ---- its records against the library, on the stored frames and on the largest hulls; what calls need of the stack
 compile_both() { # MORE WORDS..: the tests of the header, as C and as C++
     local test
-    for test in frames steps; do
+    for test in frames steps apart; do
         cc -std=c11 -O2 $strict -pedantic host/c/tests/$test.c -o "$outside/$test-c" "$@" || fail "the header's test $test is no C"
         c++ -std=c++17 -O2 $strict -x c++ host/c/tests/$test.c -x none -o "$outside/$test-cpp" "$@" || fail "the header's test $test is no C++"
     done
@@ -69,15 +69,24 @@ if [ "$linked" ]; then
     2) echo "LEFT OUT: calls on the largest hulls: $(cat "$outside/said")" ;;
     *) fail "calls on the largest hulls could not be written: $(cat "$outside/said")" ;;
     esac
+    questions=()
+    host/target/release/questions "$outside/questions.frames" "$outside/questions.answers" 2>"$outside/said"
+    case $? in
+    0) questions=("$outside/questions.frames" "$outside/questions.answers") ;;
+    2) echo "LEFT OUT: questions whether hulls are apart: $(cat "$outside/said")" ;;
+    *) fail "questions whether hulls are apart could not be written: $(cat "$outside/said")" ;;
+    esac
     for language in c cpp; do
         "$outside/frames-$language" "${files[@]}" || fail "the header's records are not the library's, or a call needs more stack than is stated ($language)"
         "$outside/steps-$language" "${files[@]}" || fail "a step answers otherwise than its calls, or needs more stack than is stated ($language)"
+        [ ${#questions[@]} = 0 ] || "$outside/apart-$language" "${questions[@]}" ||
+            fail "a question is answered otherwise than the Rust text says, or needs more stack than is stated ($language)"
     done
 else
     compile_both -c
 fi
 
-# ---- two programs, each in C and in Rust, outside the repository, by what README.md says of the first
+# ---- three programs, each in C and in Rust, outside the repository, by what README.md says of the first
 mkdir -p "$outside/in-c"
 cp host/c/*.c host/c/logs.h "$outside/in-c/"
 build_c=$(readme_lines 'A C host' | grep -E '^(export|cc) ')
@@ -85,13 +94,13 @@ build_rust=$(readme_lines 'A Rust host' | grep 'cargo ')
 cargo_toml=$(readme_lines 'A Rust host' | sed -n '/^\[package\]/,/^contact =/p')
 [ "$(wc -l <<<"$build_c")" = 2 ] && [ "$cargo_toml" ] && [ "$build_rust" ] || fail "README.md does not say how hosts are built"
 export CARGO_NET_OFFLINE=true CARGO_TARGET_DIR=$outside/target
-for sample in settle stack; do
+for sample in settle stack drag; do
     mkdir -p "$outside/$sample-in-rust/src"
     cp host/contact/examples/$sample.rs "$outside/$sample-in-rust/src/main.rs"
     echo "${cargo_toml//settle/$sample}" >"$outside/$sample-in-rust/Cargo.toml"
 done
 if [ -z "$linked" ]; then
-    for sample in settle stack; do
+    for sample in settle stack drag; do
         cc -std=c99 -pedantic $strict -Ihost/c -c "$outside/in-c/$sample.c" -o "$outside/$sample.o" || fail "the sample $sample.c does not compile"
         (cd "$outside/$sample-in-rust" && cargo check --quiet) || fail "the sample $sample.rs does not compile"
     done
@@ -115,14 +124,16 @@ sample() {
     done
 }
 sample settle settle 'What both print'
+sample drag dragged 'What the dragged log prints'
 sample stack stacked 'What the stack prints'
-echo "two logs, and a stack of twelve, settled by programs in C and in Rust, outside the repository and built by README.md's lines; each tells"
-echo "the story that the Rust text tells and README.md prints; the stack $(sed -n 's/^time: //p' "$outside/c.said") in C,"\
-    "$(sed -n 's/^time: //p' "$outside/rust.said") in Rust"
+echo "two logs, and a stack of twelve, settled, and a log dragged over three, by programs in C and in Rust, outside the repository and built"
+echo "by README.md's lines; each tells the story that the Rust text tells and README.md prints;"\
+    "the stack $(sed -n 's/^time: //p' "$outside/c.said") in C, $(sed -n 's/^time: //p' "$outside/rust.said") in Rust"
 
 # ---- a library with another number
 mkdir "$outside/other"
-echo 'unsigned contact_abi(void) { return 4000000000u; } int contact_collide, contact_step, contact_answer, contact_first_broken_rule;' >"$outside/other.c"
+echo 'unsigned contact_abi(void) { return 4000000000u; }
+int contact_collide, contact_apart, contact_step, contact_answer, contact_first_broken_rule;' >"$outside/other.c"
 cc -c "$outside/other.c" -o "$outside/other.o" && ar rcs "$outside/other/libcontactlib.a" "$outside/other.o" || fail "no other library"
 refuses() { # WORDS..: the program says that the library is another, and ends with a status that is not 0
     "$@" >"$outside/said" 2>&1 && { cat "$outside/said"; fail "$1 goes on with a library of another number"; }

@@ -14,6 +14,7 @@
    - Threads: the functions have no state; any number of threads may call them, each with its own cache and answer.
    - Stack: CONTACT_COLLIDE_STACK, CONTACT_STEP_STACK and CONTACT_ANSWER_STACK bytes at the most, beside what the caller needs
      itself, however many hulls and pairs a step has.
+   - A yes or a no: contact_apart says whether two hulls are apart, without a cache and without points.
    - Many pairs: contact_step judges each hull once and answers a list of pairs; call by call each hull is judged in each of
      its pairs. Number hulls by place, so that those which meet lie near each other in memory.
    - Floating point: the default environment of C: round to nearest, no flush to zero, no denormals as zero (MXCSR 1f80).
@@ -32,9 +33,9 @@
 extern "C" {
 #endif
 
-/* The number of these records and functions. It goes up with every change of a record, of a function's parameters, or of
-   what a number in them means. */
-#define CONTACT_ABI 6
+/* The number of these records and functions. It goes up with every function more, and with every change of a record, of a
+   function's parameters, or of what a number in them means. */
+#define CONTACT_ABI 7
 
 /* The most points of a contact, and the least capacity with which a call does any work. */
 #define CONTACT_MAX_POINTS 4
@@ -45,7 +46,8 @@ extern "C" {
 /* The most bytes of an answer to a frame. */
 #define CONTACT_LONGEST_ANSWER 108
 
-/* Bytes of stack that a call needs at the most, whatever the hulls are; contact_first_broken_rule needs less. */
+/* Bytes of stack that a call needs at the most, whatever the hulls are; contact_first_broken_rule and contact_apart need less than
+   contact_collide. */
 #define CONTACT_COLLIDE_STACK (24 * 1024)
 #define CONTACT_STEP_STACK (24 * 1024)
 #define CONTACT_ANSWER_STACK (32 * 1024)
@@ -181,6 +183,12 @@ typedef struct {
     uint8_t retired;          /* 1: accepted, with a capacity of 4 or more, and the kind that was read is retired; else 0 */
 } contact_outcome;
 
+/* The answer to a question. */
+typedef struct {
+    uint8_t status; /* CONTACT_ACCEPTED; or CONTACT_HULL_A, CONTACT_HULL_B, CONTACT_UNITS, CONTACT_TRANSFORM, the first that applies */
+    uint8_t apart;  /* 1 where the hulls are apart; else 0, as with every refusal */
+} contact_apart_result;
+
 /* ---- a step: many pairs in one call
 
    A step is lent lists of plain numbers, so that a host in any language can make them. What stands behind the last whole hull
@@ -264,6 +272,17 @@ contact_outcome contact_collide(
     const float *numbers_a, size_t numbers_a_len, const uint8_t *links_a, size_t links_a_len, contact_size size_a,
     const float *numbers_b, size_t numbers_b_len, const uint8_t *links_b, size_t links_b_len, contact_size size_b,
     contact_transform b_in_a, contact_cache *cache);
+
+/* Whether hull A and hull B, B placed in A's frame, are apart: a yes where some axis, a face of A, a face of B or a pair of edges,
+   has them strictly farther from each other than contact_speculative_distance of their unit. It is the same yes as that of a call
+   with a cache of CONTACT_NOTHING that ends without points and with such an axis in its next cache. A no says that no axis has
+   them so far apart; a call may still find no points. Refused for the first four reasons of a call and for no other: padding that
+   reaches farther than every vertex is none. There is no cache, nothing is written, and nothing is asked of the caller but memory
+   that is there. The two hulls may be the same lists. */
+contact_apart_result contact_apart(
+    const float *numbers_a, size_t numbers_a_len, const uint8_t *links_a, size_t links_a_len, contact_size size_a,
+    const float *numbers_b, size_t numbers_b_len, const uint8_t *links_b, size_t links_b_len, contact_size size_b,
+    contact_transform b_in_a);
 
 /* The number of the first rule that a hull breaks, 1 to 9 for H1 to H9, 0 if none. With a capacity of 4 or more
    contact_collide gives CONTACT_HULL_A exactly where this is not 0 of hull A, and CONTACT_HULL_B exactly where it is 0 of A

@@ -2,8 +2,8 @@
 -- (specs of `collide_full`). Definitions only.
 use lib.Ieee.{binary32, toBits}
 use Rattle.manifold.specs.declared.SatCache.{SatCache}
-use Rattle.axis.specs.declared.Apart.{Apart}
+use Rattle.axis.specs.declared.AxisApart.{AxisApart}
 
 -- its separation's bits, its type (2, 3 or 4) and its numbers, and no hit
-unfoldable pub cacheOf : Apart → SatCache
+unfoldable pub cacheOf : AxisApart → SatCache
 cacheOf a = record { separation = toBits binary32 (a .separation); kind = a .kind; «index_a» = a .«index_a»; «index_b» = a .«index_b»; hit = 0 }

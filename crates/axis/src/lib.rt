@@ -21,7 +21,7 @@ pub struct Axis {
 }
 
 // The hulls are apart: the kind is that of the cache, 2 along a face of A, 3 along a face of B, 4 along a pair of edges.
-pub struct Apart {
+pub struct AxisApart {
     pub kind: u8,
     pub separation: f32,
     pub index_a: u8,
@@ -41,7 +41,7 @@ pub struct Found {
 }
 
 pub enum Search {
-    Apart(Apart),
+    Apart(AxisApart),
     Found(Found),
 }
 
@@ -71,7 +71,7 @@ fn edge_axis(lead: Lead) -> EdgeAxis
 fn apart_along(kind: u8, lead: Lead) -> Search
     ensures { λ r. ⌜ r ≡ apartOf kind lead ⌝ }
 {
-    Search::Apart(Apart {
+    Search::Apart(AxisApart {
         kind,
         separation: lead.separation,
         index_a: lead.index_a,

@@ -7,9 +7,15 @@ use Prim.Native.Nat.{ℕ, zero, suc, _+_, _-_, _<_, _≤_}
 use native.Mathlib.Numerals.{add-one}
 use native.Mathlib.Nat.{eq-or-lt-of-le, le-of-suc-le-suc}
 use native.Mathlib.Omega.{arith}
+use lib.Ieee.{inf, neg, ofBits, div}
 use Rattle.bounds.proofs.Laws.{picked}
 use Rattle.axis_best.specs.declared.Lead.{Lead}
-use Rattle.axis_best.specs.Leads.{leadAfter}
+use Rattle.axis_best.specs.Leads.{lowest, leadAfter}
+
+-- nothing found is minus infinity
+pub lowest-is : lowest ≡ inf true
+unfolding div ofBits neg
+lowest-is = refl
 
 module _ (step : ℕ → Lead → Lead) (start : Lead) where
   pub begins : start ≡ leadAfter step start 0

@@ -6,7 +6,7 @@ use mathlib.Core.List.{List}
 use Prim.Native.Nat.{ℕ, zero, suc, _-_, _<_}
 use native.Mathlib.Omega.{arith}
 use lib.Dec.{T, lit≤}
-use lib.Ieee.{Float, nan, inf, fin, lt, neg, ofBits, div}
+use lib.Ieee.{Float, nan, inf, fin, lt}
 use lib.Ieee.Scale.{finite}
 use Rattle.bounds.proofs.Laws.{is-finite, picked}
 use Rattle.vector.specs.declared.Vec3.{Vec3}
@@ -16,6 +16,7 @@ use Rattle.hull_links.specs.declared.HullSize.{HullSize}
 use Rattle.hull.specs.Numbers.{boxOf, planeAt}
 use Rattle.axis_best.specs.declared.Lead.{Lead}
 use Rattle.axis_best.specs.Leads.{lowest, noneOf, newBest, betterOf, leadAfter}
+use Rattle.axis_best.proofs.Searches.{lowest-is}
 use Rattle.axis_faces.specs.declared.Face.{Face}
 use Rattle.axis_faces.specs.declared.Side.{Side}
 use Rattle.axis_faces.specs.Faces.{biasOf, directionOf, farthestVertexOf, faceTakenOf, faceOf, faceSearchOf}
@@ -25,10 +26,6 @@ use Rattle.axis_faces.proofs.Lanes.{support-in}
 use Rattle.axis_faces.proofs.Facing.{direction-near, faces-ready, support-ready}
 
 -- ---- the first face takes the lead from minus infinity; those after it keep it or take it
-lowest-is : lowest ≡ inf true
-unfolding div ofBits neg
-lowest-is = refl
-
 above-minus-infinity : (x : Float) → T (finite x) → lt (inf true) x ≡ true
 unfolding lt
 above-minus-infinity nan p = absurd p

@@ -9,3 +9,4 @@ pub mod Norms
 pub mod Lessened
 pub mod PatternOrder
 pub mod Strict
+pub mod Order

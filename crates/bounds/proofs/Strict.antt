@@ -12,7 +12,7 @@ neither true y p q = absurd (p tt)
 neither false true p q = absurd (q tt)
 neither false false p q = refl
 
-passed : (x : Bool) → x ≡ true → T x
+pub passed : (x : Bool) → x ≡ true → T x
 passed true e = tt
 passed false e = absurd (true≢false (sym e))
 

@@ -13,7 +13,7 @@ use Rattle.units.specs.Limits.{slop}
 use Rattle.manifold.specs.Records.{emptyContact}
 use Rattle.hull_links.specs.declared.HullSize.{HullSize}
 use Rattle.axis.specs.declared.Axis.{Axis}
-use Rattle.axis.specs.declared.Apart.{Apart}
+use Rattle.axis.specs.declared.AxisApart.{AxisApart}
 use Rattle.axis.specs.declared.EdgeAxis.{EdgeAxis}
 use Rattle.axis.specs.declared.Search.{Search}
 use Rattle.axis.specs.Search.{searchOf}
@@ -23,7 +23,7 @@ use Rattle.contacts.specs.Faces.{faceAOf, faceBOf}
 use Rattle.contacts.specs.EdgePairs.{edgeContactOf}
 
 -- an axis apart: no points, and the axis in the cache
-unfoldable pub apartBuilt : Apart → Built
+unfoldable pub apartBuilt : AxisApart → Built
 apartBuilt a = record { status = 0; touching = false; contact = emptyContact; cache = cacheOf a }
 
 -- no points stand, or the pair's separation is strictly above the cache's plus slop

@@ -7,8 +7,8 @@ ghost use Rattle.clip_corners.specs.Places.{Roomy};
 ghost use Rattle.axis.specs.Ranges.{EdgeInRange};
 ghost use Rattle.collide_full.specs.Full.{apartBuilt, triesEdge, pairContact, contactA, contactB, winnerContact, insteadOf, withEdge};
 ghost use Rattle.collide_full.specs.Full.{foundContact, fullOf};
-use axis::Apart;
 use axis::Axis;
+use axis::AxisApart;
 use axis::EdgeAxis;
 use axis::Search;
 use axis::compute_separating_axis;
@@ -25,7 +25,7 @@ use units::linear_slop;
 use vector::Transform;
 
 // The hulls are apart: no points, and the axis in the cache.
-fn apart_built(apart: Apart) -> Built
+fn apart_built(apart: AxisApart) -> Built
     ensures { λ r. ⌜ r ≡ apartBuilt apart ⌝ }
 {
     let contact = empty_contact();

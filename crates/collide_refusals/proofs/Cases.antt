@@ -18,7 +18,7 @@ use Rattle.hull_limits.proofs.Placed.{placed}
 use Rattle.hull.specs.Rule8.{brokenRule}
 use Rattle.hull.specs.Accepted.{Accepted}
 use Rattle.hull.proofs.Accepted.{accepted}
-use Rattle.collide_refusals.specs.Refusals.{firstHalf, cacheRight, unless, laterRefusalOf, refusalOf}
+use Rattle.collide_refusals.specs.Refusals.{firstHalf, cacheRight, unless, placedRefusalOf, laterRefusalOf, refusalOf, questionRefusalOf}
 
 -- ---- refusal 4
 and-true : (a : Bool) → a ≡ (a & true)
@@ -128,20 +128,41 @@ early-numbers true true true false c = inl (omega arith)
 early-numbers true true true true false = inl (omega arith)
 early-numbers true true true true true = inl (omega arith)
 
--- ---- what is left to be refused of two hulls that break no rule, at each of its cases
-module _ (s t : HullSize) (x : Transform) (c : SatCache) where
-  pub later-17 : (s .unit ≡ t .unit → ⊥) → 17 ≡ laterRefusalOf s t x c
-  later-17 u = rw (ne-eqb _ _ u)
+-- ---- what is left to be refused of two hulls that break no rule
+-- two tests and what comes after them: a number of theirs is given whatever comes later, and where they pass, what comes later
+stays : (u d : Bool) (later : ℕ) → (unless 17 u (unless 3 d 0) ≡ 0 → ⊥) → unless 17 u (unless 3 d 0) ≡ unless 17 u (unless 3 d later)
+stays false d later h = refl
+stays true false later h = refl
+stays true true later h = absurd (h refl)
+
+passes-on : (u d : Bool) (later : ℕ) → unless 17 u (unless 3 d 0) ≡ 0 → later ≡ unless 17 u (unless 3 d later)
+passes-on false d later h = absurd (omega (arith, h))
+passes-on true false later h = absurd (omega (arith, h))
+passes-on true true later h = refl
+
+module _ (s t : HullSize) (c : SatCache) where
+  pub four : cacheRight s t c ≡ false → 4 ≡ unless 4 (cacheRight s t c) 0
+  four e = rw e
+
+  pub not-four : cacheRight s t c ≡ true → 0 ≡ unless 4 (cacheRight s t c) 0
+  not-four e = rw e
+
+module _ (s t : HullSize) (x : Transform) (later : ℕ) where
+  pub placed-17 : (s .unit ≡ t .unit → ⊥) → 17 ≡ placedRefusalOf s t x later
+  placed-17 u = rw (ne-eqb _ _ u)
 
   module _ (u : s .unit ≡ t .unit) where
-    pub later-3 : transformRight (s .unit) x ≡ false → 3 ≡ laterRefusalOf s t x c
-    later-3 d = rw (eq-eqb _ _ u, d)
+    pub placed-3 : transformRight (s .unit) x ≡ false → 3 ≡ placedRefusalOf s t x later
+    placed-3 d = rw (eq-eqb _ _ u, d)
 
-    pub later-4 : transformRight (s .unit) x ≡ true → cacheRight s t c ≡ false → 4 ≡ laterRefusalOf s t x c
-    later-4 d e = rw (eq-eqb _ _ u, d, e)
+    pub placed-none : transformRight (s .unit) x ≡ true → later ≡ placedRefusalOf s t x later
+    placed-none d = rw (eq-eqb _ _ u, d)
 
-    pub later-none : transformRight (s .unit) x ≡ true → cacheRight s t c ≡ true → 0 ≡ laterRefusalOf s t x c
-    later-none d e = rw (eq-eqb _ _ u, d, e)
+  pub placed-first : (placedRefusalOf s t x 0 ≡ 0 → ⊥) → placedRefusalOf s t x 0 ≡ placedRefusalOf s t x later
+  placed-first = stays (eqb (s .unit) (t .unit)) (transformRight (s .unit) x) later
+
+  pub placed-passed : placedRefusalOf s t x 0 ≡ 0 → later ≡ placedRefusalOf s t x later
+  placed-passed = passes-on (eqb (s .unit) (t .unit)) (transformRight (s .unit) x) later
 
 module _ (s : HullSize) (n : List Float) (l : List ℕ) (t : HullSize) (m : List Float) (k : List ℕ) (x : Transform) (c : SatCache) where
   -- the five tests
@@ -175,13 +196,13 @@ module _ (s : HullSize) (n : List Float) (l : List ℕ) (t : HullSize) (m : List
 
   module _ (a : brokenRule s n l ≡ 0) (b : brokenRule t m k ≡ 0) where
     pub refuses-17 : (s .unit ≡ t .unit → ⊥) → 17 ≡ refusalOf s n l t m k x c
-    refuses-17 u = later-17 s t x c u ∙ refuses-later a b
+    refuses-17 u = placed-17 s t x _ u ∙ refuses-later a b
 
     pub refuses-3 : s .unit ≡ t .unit → transformRight (s .unit) x ≡ false → 3 ≡ refusalOf s n l t m k x c
-    refuses-3 u d = later-3 s t x c u d ∙ refuses-later a b
+    refuses-3 u d = placed-3 s t x _ u d ∙ refuses-later a b
 
     pub refuses-4 : s .unit ≡ t .unit → transformRight (s .unit) x ≡ true → cacheRight s t c ≡ false → 4 ≡ refusalOf s n l t m k x c
-    refuses-4 u d e = later-4 s t x c u d e ∙ refuses-later a b
+    refuses-4 u d e = four s t c e ∙ placed-none s t x _ u d ∙ refuses-later a b
 
   -- ---- and what each number says
   pub means-1 : refusalOf s n l t m k x c ≡ 1 → brokenRule s n l ≡ 0 → ⊥
@@ -219,3 +240,29 @@ module _ (s : HullSize) (n : List Float) (l : List ℕ) (t : HullSize) (m : List
   -- and the work may begin
   pub unrefused : refusalOf s n l t m k x c ≡ 0 → Accepted s n l × Accepted t m k × Placed x × (cacheRight s t c ≡ true)
   unrefused q = let w = means-none q in (accepted s n l (w .0), accepted t m k (w .1), placed (s .unit) x (w .3), w .4)
+
+  -- a question is refused as a call whose cache names what is there
+  pub as-the-call : cacheRight s t c ≡ true → questionRefusalOf s n l t m k x ≡ refusalOf s n l t m k x c
+  unfolding refusalOf questionRefusalOf
+  as-the-call e = rw e
+
+-- ---- the same of a question
+module _ (s : HullSize) (n : List Float) (l : List ℕ) (t : HullSize) (m : List Float) (k : List ℕ) (x : Transform) where
+  pub asks-1 : (brokenRule s n l ≡ 0 → ⊥) → 1 ≡ questionRefusalOf s n l t m k x
+  unfolding questionRefusalOf
+  asks-1 a = rw (ne-eqb _ _ a)
+
+  pub asks-2 : brokenRule s n l ≡ 0 → (brokenRule t m k ≡ 0 → ⊥) → 2 ≡ questionRefusalOf s n l t m k x
+  unfolding questionRefusalOf
+  asks-2 a b = rw (eq-eqb _ _ a, ne-eqb _ _ b)
+
+  pub asks-placed : brokenRule s n l ≡ 0 → brokenRule t m k ≡ 0 → placedRefusalOf s t x 0 ≡ questionRefusalOf s n l t m k x
+  unfolding questionRefusalOf
+  asks-placed a b = rw (eq-eqb _ _ a, eq-eqb _ _ b)
+
+  -- where none is given, the search may begin, and the hulls have one unit
+  pub unrefused-question : questionRefusalOf s n l t m k x ≡ 0 → Accepted s n l × Accepted t m k × Placed x × (s .unit ≡ t .unit)
+  unfolding questionRefusalOf
+  unrefused-question q =
+      let w = only-none (eqb (brokenRule s n l) 0) (eqb (brokenRule t m k) 0) (eqb (s .unit) (t .unit)) (transformRight (s .unit) x) true q in
+      (accepted s n l (eqb-true _ _ (w .0)), accepted t m k (eqb-true _ _ (w .1)), placed (s .unit) x (w .3), eqb-true _ _ (w .2))

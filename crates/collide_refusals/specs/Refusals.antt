@@ -27,16 +27,28 @@ cacheRight s t c =
 abbrev pub unless : ℕ → Bool → ℕ → ℕ
 unless number test later = cond test later number
 
--- "3: the transform breaks a rule"; 4. "Both hulls of a call must agree", and the transform's limit goes by their unit. What these give, 0 if nothing
-abbrev pub laterRefusalOf : HullSize → HullSize → Transform → SatCache → ℕ
-laterRefusalOf s t x cache =
-    unless 17 (eqb (s .unit) (t .unit))
-    (unless 3 (transformRight (s .unit) x)
-    (unless 4 (cacheRight s t cache) 0))
-
--- "1, 2: hull A, hull B breaks a rule". The number of the first that is given, 0 if none
-unfoldable pub refusalOf : HullSize → List Float → List ℕ → HullSize → List Float → List ℕ → Transform → SatCache → ℕ
-refusalOf s n l t m k x cache =
+-- "1, 2: hull A, hull B breaks a rule"; else what the later tests give
+abbrev hullsRefusalOf : HullSize → List Float → List ℕ → HullSize → List Float → List ℕ → ℕ → ℕ
+hullsRefusalOf s n l t m k later =
     unless 1 (eqb (brokenRule s n l) 0)
     (unless 2 (eqb (brokenRule t m k) 0)
-    (laterRefusalOf s t x cache))
+    later)
+
+-- 17, "both hulls of a call must agree"; "3: the transform breaks a rule", whose limit goes by their unit; else what the later tests give
+abbrev pub placedRefusalOf : HullSize → HullSize → Transform → ℕ → ℕ
+placedRefusalOf s t x later =
+    unless 17 (eqb (s .unit) (t .unit))
+    (unless 3 (transformRight (s .unit) x)
+    later)
+
+-- what is left of two hulls that break no rule: 17, 3, then 4
+abbrev pub laterRefusalOf : HullSize → HullSize → Transform → SatCache → ℕ
+laterRefusalOf s t x cache = placedRefusalOf s t x (unless 4 (cacheRight s t cache) 0)
+
+-- of a call: the number of the first that is given, 0 if none
+unfoldable pub refusalOf : HullSize → List Float → List ℕ → HullSize → List Float → List ℕ → Transform → SatCache → ℕ
+refusalOf s n l t m k x cache = hullsRefusalOf s n l t m k (laterRefusalOf s t x cache)
+
+-- of a question, which has no cache: "1, 2, 3 only, in their old order" (document 02, b), and 17 in its place
+unfoldable pub questionRefusalOf : HullSize → List Float → List ℕ → HullSize → List Float → List ℕ → Transform → ℕ
+questionRefusalOf s n l t m k x = hullsRefusalOf s n l t m k (placedRefusalOf s t x 0)

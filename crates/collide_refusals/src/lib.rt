@@ -1,7 +1,7 @@
 // The refusals that are given before any work, in their order: 1 and 2 of the hulls, which the caller judges, 17 of their units, 3 of the transform,
-// 4 of what the cache names. What each says is in specs/Refusals.antt.
+// and, where there is a cache, 4 of what it names. What each says is in specs/Refusals.antt.
 ghost use mathlib.Core.Path.{_≡_};
-ghost use Rattle.collide_refusals.specs.Refusals.{firstHalf, cacheRight, laterRefusalOf};
+ghost use Rattle.collide_refusals.specs.Refusals.{firstHalf, cacheRight, placedRefusalOf, laterRefusalOf};
 use hull_limits::transform::transform_accepted;
 use hull_links::HullSize;
 use manifold::SatCache;
@@ -35,6 +35,19 @@ fn cache_right(size_a: HullSize, size_b: HullSize, cache: SatCache) -> bool
     }
 }
 
+// What is refused of where one hull stands to the other, 0 if nothing: 17, units that differ, then 3, the transform by their unit.
+pub fn placed_refusal(size_a: HullSize, size_b: HullSize, transform: Transform) -> u8
+    ensures { λ r. ⌜ r ≡ placedRefusalOf «size_a» «size_b» transform 0 ⌝ }
+{
+    if size_a.unit != size_b.unit {
+        return 17;
+    }
+    if !transform_accepted(size_a.unit, transform) {
+        return 3;
+    }
+    0
+}
+
 // The first refusal that is given before any work to two hulls that break no rule, 0 if none: 17, 3, 4.
 pub fn later_refusal(
     size_a: HullSize,
@@ -44,11 +57,9 @@ pub fn later_refusal(
 ) -> u8
     ensures { λ r. ⌜ r ≡ laterRefusalOf «size_a» «size_b» transform cache ⌝ }
 {
-    if size_a.unit != size_b.unit {
-        return 17;
-    }
-    if !transform_accepted(size_a.unit, transform) {
-        return 3;
+    let placed = placed_refusal(size_a, size_b, transform);
+    if placed != 0 {
+        return placed;
     }
     if !cache_right(size_a, size_b, cache) {
         return 4;

@@ -8,11 +8,11 @@ use lib.ListN.{set}
 use lib.Ieee.{binary32, le, neg, ofBits, add, sub, mul}
 use Rattle.units.specs.Units.{knownUnit, unitsPerMeter}
 use Rattle.units.specs.Limits.{coordinateLimit, offsetLimit, edgeLimit}
-use Rattle.hull_links.specs.Tests.{_&_, _or_, implies, all, firstBroken}
+use Rattle.hull_links.specs.Tests.{_&_, _or_, implies, all, firstBroken, any}
 use Rattle.hull_links.specs.Walks.{has, firsts, until, ring}
 use Rattle.hull_links.specs.Rules.{h1, vertexInRange, edgeInRange, faceInRange, h2, twinsAt, h3, linkedAt, h4, newNext, h5, ringHolds, ringRight, h6}
 use Rattle.hull_links.specs.Rules.{fanHolds, fanRight, h7}
-use Rattle.hull_shell.specs.Shell.{isIn, listed, edgesWith, any, leads, oneStepOn, within, h9}
+use Rattle.hull_shell.specs.Shell.{isIn, listed, edgesWith, leads, oneStepOn, within, h9}
 use Rattle.hull.specs.Numbers.{boxOf, vertexAt, planeAt}
 use Rattle.hull_limits.specs.Measures.{inside, withinLimit, nearOne, apart, inBox, planeRight, endsApart}
 use Rattle.hull.specs.Rule8.{finiteAt, smallAt, vertexInBox, planeRightAt, edgeLong, h8, brokenRule}

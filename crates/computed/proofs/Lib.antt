@@ -11,3 +11,4 @@ pub mod LimitsCut
 pub mod LimitsFrames
 pub mod LimitsUnits
 pub mod LimitsStep
+pub mod LimitsApart

@@ -22,14 +22,14 @@ use Rattle.manifold.specs.declared.SatCache.{SatCache}
 use Rattle.manifold.specs.declared.Answer.{Answer}
 use Rattle.manifold.specs.Pairs.{ownerOf, pairOf}
 use Rattle.manifold.specs.Polygons.{turns}
-use Rattle.hull_links.specs.Tests.{_&_, _or_, implies, all, firstBroken}
+use Rattle.hull_links.specs.Tests.{_&_, _or_, implies, all, firstBroken, any}
 use Rattle.hull_links.specs.Walks.{has, firsts, until, ring}
 use Rattle.hull_links.specs.Rules.{h1, vertexInRange, edgeInRange, faceInRange, h2, twinsAt, h3, linkedAt, h4, newNext, h5}
 use Rattle.hull_links.specs.Rules.{ringHolds, ringRight, h6, fanHolds, fanRight, h7}
 use Rattle.hull_limits.specs.Measures.{inside, withinLimit, nearOne, apart, inBox, planeRight, endsApart}
 use Rattle.hull_limits.specs.Transform.{transformRight}
 use Rattle.hull.specs.Rule8.{finiteAt, smallAt, vertexInBox, planeRightAt, edgeLong, h8, brokenRule}
-use Rattle.hull_shell.specs.Shell.{isIn, listed, edgesWith, any, leads, oneStepOn, within, h9}
+use Rattle.hull_shell.specs.Shell.{isIn, listed, edgesWith, leads, oneStepOn, within, h9}
 use Rattle.hull.specs.Numbers.{boxOf, vertexAt, planeAt, supportAt}
 use Rattle.axis_best.specs.Leads.{stopsOf, betterOf, leadAfter}
 use Rattle.axis_faces.specs.Support.{supportValueOf, groupOf, splatOf, leastLanes, supportOf}
@@ -52,16 +52,13 @@ use Rattle.collide_cached.specs.Again.{deepestBelowA, separationFromA, cachedFa
 use Rattle.collide_cached.specs.Ridges.{ridgeOf, carriedRidge, crossOver, wideOf, crossesOf, axisBetween}
 use Rattle.collide_full.specs.Full.{apartBuilt, contactA, contactB, winnerContact, withEdge, foundContact, afterSearch, fullOf}
 use Rattle.collide.specs.Call.{afterCached, workedOf, collideOf}
-use Rattle.computed.proofs.Rows.{Row, row, is, yes, no, given, said, bits, vec, sizes}
-use Rattle.computed.proofs.Shapes.{Sample, inUnit, tetrahedron, upright, lying}
+use Rattle.computed.proofs.Rows.{Row, row, is, yes, no, given, said, bits, vec, sizes, at}
+use Rattle.computed.proofs.Shapes.{Sample, inUnit, numbersOf, tetrahedron, upright, lying, nothing, point, padding, faced}
 
 abbrev cache : (separation kind a b hit : ℕ) → SatCache
 cache separation kind a b hit = record { separation = separation; kind = kind; «index_a» = a; «index_b» = b; hit = hit }
 
--- here or there, not turned
-abbrev at : ℕ → ℕ → Transform
-at x z = record { p = vec x 0 z; q = record { v = vec 0 0 0; s = float 0x3f80_0000 } }
-
+-- here or there
 abbrev here : Transform
 here = at 0 0
 
@@ -83,22 +80,6 @@ abbrev told : Answer → List ℕ
 told r =
     r .outcome .status ∷ r .outcome .contact .count ∷ r .outcome .retired ∷ r .cache .separation ∷ r .cache .kind ∷ r .cache .«index_a» ∷ r .cache .«index_b»
     ∷ r .cache .hit ∷ []
-
--- a hull of nothing; one vertex at the origin and no face; the same with a padding lane at z = -1; one vertex at the origin and the face z = 0
-abbrev nothing : Sample
-nothing = record { size = sizes 0 0 0; bits = []; links = [] }
-
-abbrev point : Sample
-point = record { size = sizes 1 0 0; bits = replicate 18 0; links = 0 ∷ [] }
-
-abbrev padding : Sample
-padding = record { size = sizes 1 0 0; bits = replicate 15 0 ++ (0xbf80_0000 ∷ 0 ∷ 0 ∷ []); links = 0 ∷ [] }
-
-abbrev faced : Sample
-faced = record { size = sizes 1 0 1; bits = replicate 18 0 ++ (0 ∷ 0 ∷ 0x3f80_0000 ∷ 0 ∷ []); links = 0 ∷ 0 ∷ [] }
-
-abbrev numbersOf : Sample → List Float
-numbersOf h = map float (h .bits)
 
 -- the refusal before any work
 abbrev refusal : Sample → Sample → Transform → SatCache → ℕ

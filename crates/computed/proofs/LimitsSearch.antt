@@ -22,7 +22,7 @@ use Rattle.axis_faces.specs.Support.{supportValueOf, groupOf, splatOf, leastLan
 use Rattle.axis_edges.specs.Edges.{eps, dotRight, passesOf, parallelOf}
 use Rattle.axis_row.specs.inner.Marks.{atLeastEps, failsFirst}
 use Rattle.axis_row.specs.inner.Sift.{failsLater}
-use Rattle.axis.specs.declared.Apart.{Apart}
+use Rattle.axis.specs.declared.AxisApart.{AxisApart}
 use Rattle.axis.specs.declared.Found.{Found}
 use Rattle.axis.specs.declared.Search.{Search}
 use Rattle.axis.specs.Search.{axisOf, apartOf, edgeOf, foundOf, searchAnswerOf}

@@ -5,6 +5,7 @@ use Prim.Native.Nat.{ℕ}
 use lib.Ieee.{Float, binary32, toBits}
 use Rattle.vector.specs.Rounded.{float}
 use Rattle.vector.specs.declared.Vec3.{Vec3}
+use Rattle.vector.specs.declared.Transform.{Transform}
 use Rattle.hull_links.specs.declared.HullSize.{HullSize}
 use Rattle.hull_links.specs.Walks.{bit}
 
@@ -45,3 +46,7 @@ sizesAt unit v h f = record { unit = unit; vertices = v; «half_edges» = h; fac
 
 abbrev pub sizes : ℕ → ℕ → ℕ → HullSize
 sizes v h f = sizesAt 1 v h f
+
+-- at x and z, not turned
+abbrev pub at : ℕ → ℕ → Transform
+at x z = record { p = vec x 0 z; q = record { v = vec 0 0 0; s = float 0x3f80_0000 } }

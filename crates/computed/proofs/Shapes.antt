@@ -1,8 +1,10 @@
--- Four hulls in full, their coordinates and planes rounded to binary32; three records that are not one shell; two single edges: what the tables compute
--- on. Assumes nothing.
-use mathlib.Core.List.{List, [], _∷_, _++_}
+-- Four hulls in full, their coordinates and planes rounded to binary32; three records that are not one shell; two single edges, and less: what the
+-- tables compute on. Assumes nothing.
+use mathlib.Core.List.{List, [], _∷_, _++_, map}
 use Prim.Native.Nat.{ℕ, zero, suc, _+_}
 use lib.ListN.{replicate, take}
+use lib.Ieee.{Float}
+use Rattle.vector.specs.Rounded.{float}
 use Rattle.hull_links.specs.declared.HullSize.{HullSize}
 use Rattle.computed.proofs.Rows.{sizes, sizesAt}
 
@@ -15,6 +17,10 @@ pub record Sample : Type 0 where
 -- the same numbers and links at this unit
 abbrev pub inUnit : ℕ → Sample → Sample
 inUnit unit h = record { size = sizesAt unit (h .size .vertices) (h .size .«half_edges») (h .size .faces); bits = h .bits; links = h .links }
+
+-- its numbers
+abbrev pub numbersOf : Sample → List Float
+numbersOf h = map float (h .bits)
 
 -- the corners (0, 0, 0), (1, 0, 0), (0, 1, 0), (0, 0, 1)
 abbrev pub tetrahedron : Sample
@@ -48,6 +54,19 @@ lying = record {
       ++ (0xbf80_0000 ∷ 0x3f80_0000 ∷ 0 ∷ 0 ∷ 0xbf80_0000 ∷ 0x3f80_0000 ∷ 0 ∷ 0 ∷ 0xbf80_0000 ∷ 0xbf80_0000 ∷ 0 ∷ 0 ∷ []);
   links = upright .links;
 }
+
+-- a hull of nothing; one vertex at the origin and no face; the same with a padding lane at z = -1; one vertex at the origin and the face z = 0
+abbrev pub nothing : Sample
+nothing = record { size = sizes 0 0 0; bits = []; links = [] }
+
+abbrev pub point : Sample
+point = record { size = sizes 1 0 0; bits = replicate 18 0; links = 0 ∷ [] }
+
+abbrev pub padding : Sample
+padding = record { size = sizes 1 0 0; bits = replicate 15 0 ++ (0xbf80_0000 ∷ 0 ∷ 0 ∷ []); links = 0 ∷ [] }
+
+abbrev pub faced : Sample
+faced = record { size = sizes 1 0 1; bits = replicate 18 0 ++ (0 ∷ 0 ∷ 0x3f80_0000 ∷ 0 ∷ []); links = 0 ∷ 0 ∷ [] }
 
 -- half-size 1, faces -x, +x, -y, +y, -z, +z
 abbrev pub cube : Sample

@@ -2,7 +2,7 @@
 ghost use mathlib.Core.Path.{_≡_};
 ghost use Rattle.contactlib.specs.Abi.{abiNumber};
 
-pub const ABI: u32 = 6;
+pub const ABI: u32 = 7;
 
 #[no_mangle]
 pub extern "C" fn contact_abi() -> u32

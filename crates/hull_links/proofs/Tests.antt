@@ -1,5 +1,5 @@
 -- What a test says where it is true and where it is false, and the loops that try a test of every number. Assumes nothing.
-use mathlib.Core.Path.{_≡_, refl, sym, ap, ap₂, _∙_}
+use mathlib.Core.Path.{_≡_, refl, sym, ap, ap₂, _∙_, subst}
 use mathlib.Core.Bool.{Bool, true, false, _&&_, _||_, false≢true}
 use mathlib.Core.List.{List, [], _∷_, _++_}
 use Prim.Native.Nat.{ℕ, zero, suc, _+_, _≤_, _<_}
@@ -8,7 +8,7 @@ use native.Mathlib.Omega.{arith}
 use lib.Dec.{eqb}
 use lib.ListN.{length, getD}
 use borrow.Author.Tests.{eqb-true, eqb-false}
-use Rattle.hull_links.specs.Tests.{_&_, _or_, implies, all, firstBroken}
+use Rattle.hull_links.specs.Tests.{_&_, _or_, implies, all, any, firstBroken}
 
 -- a test is true or it is false
 pub cases {ℓ} : {C : Type ℓ} (b : Bool) → (b ≡ true → C) → (b ≡ false → C) → C
@@ -115,6 +115,20 @@ unfolding all _&_
 not-all p zero h = absurd (false≢true (sym h))
 not-all p (suc k) h =
     cases (all p k) (λ t. (k, omega arith, rw t at h)) (λ t. let z = not-all p k t in let y = z .1 in (z .0, omega arith, z .2))
+
+-- one of them
+pub any-some : (p : ℕ → Bool) (k : ℕ) → any p k ≡ true → (d : ℕ) × (d < k) × (p d ≡ true)
+unfolding any
+any-some p zero h = absurd (false≢true h)
+any-some p (suc k) h =
+    or-use (any p k) (p k) h (λ t. let z = any-some p k t in let y = z .1 in (z .0, omega arith, z .2)) (λ t. (k, omega arith, t))
+
+pub any-one : (p : ℕ → Bool) (k d : ℕ) → d < k → p d ≡ true → any p k ≡ true
+unfolding any
+any-one p zero d l h = absurd (omega arith)
+any-one p (suc k) d l h =
+    cases (eqb d k) (λ t. or-right (any p k) (p k) (subst (λ (x : ℕ). p x ≡ true) (eqb-true d k t) h))
+    (λ t. or-left (any p k) (p k) (any-one p k d (omega (arith, eqb-false d k t)) h))
 
 pub all-same : (p q : ℕ → Bool) (k : ℕ) → ((i : ℕ) → i < k → p i ≡ q i) → all p k ≡ all q k
 unfolding all

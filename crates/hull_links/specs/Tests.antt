@@ -26,6 +26,11 @@ unfoldable pub all : (ℕ → Bool) → ℕ → Bool
 all p zero = true
 all p (suc k) = all p k & p k
 
+-- the test p is true of one of 0, 1, .., k - 1
+unfoldable pub any : (ℕ → Bool) → ℕ → Bool
+any p zero = false
+any p (suc k) = any p k or p k
+
 -- the number of the first test that is false, where the first of them has number k; 0 if none is
 unfoldable pub firstBroken : ℕ → List Bool → ℕ
 firstBroken k [] = 0

@@ -10,29 +10,16 @@ use lib.Dec.{eqb}
 use lib.ListN.{getD}
 use borrow.Author.Tests.{eqb-true, eqb-false, eq-eqb}
 use Rattle.hull_links.specs.declared.HullSize.{HullSize}
-use Rattle.hull_links.specs.Tests.{_or_, implies, all}
+use Rattle.hull_links.specs.Tests.{_or_, implies, all, any}
 use Rattle.hull_links.specs.Walks.{bit}
 use Rattle.hull_links.specs.inner.Sums.{sum}
 use Rattle.hull_links.specs.Links.{next, twin, LinksFit}
 use Rattle.hull_links.specs.Rules.{h2}
 use Rattle.hull_links.proofs.Tests.{cases, and-left, and-right, and-intro, or-left, or-right, or-use, implies-use, not-implied, all-at, all-intro, not-all}
+use Rattle.hull_links.proofs.Tests.{any-some, any-one}
 use Rattle.hull_links.proofs.Counting.{sum-zero, sum-at-most, sum-grows}
 use Rattle.hull_links.proofs.Facts.{next-lt, twin-lt}
-use Rattle.hull_shell.specs.Shell.{Reached, first, by-next, by-twin, OneShell, isIn, listed, edgesWith, any, leads, oneStepOn, within, h9}
-
--- ---- one of them
-any-some : (p : ℕ → Bool) (k : ℕ) → any p k ≡ true → (d : ℕ) × (d < k) × (p d ≡ true)
-unfolding any
-any-some p zero h = absurd (false≢true h)
-any-some p (suc k) h =
-    or-use (any p k) (p k) h (λ t. let z = any-some p k t in let y = z .1 in (z .0, omega arith, z .2)) (λ t. (k, omega arith, t))
-
-any-one : (p : ℕ → Bool) (k d : ℕ) → d < k → p d ≡ true → any p k ≡ true
-unfolding any
-any-one p zero d l h = absurd (omega arith)
-any-one p (suc k) d l h =
-    cases (eqb d k) (λ t. or-right (any p k) (p k) (subst (λ (x : ℕ). p x ≡ true) (eqb-true d k t) h))
-    (λ t. or-left (any p k) (p k) (any-one p k d (omega (arith, eqb-false d k t)) h))
+use Rattle.hull_shell.specs.Shell.{Reached, first, by-next, by-twin, OneShell, isIn, listed, edgesWith, leads, oneStepOn, within, h9}
 
 -- ---- a test as a number
 bit-one : (a : Bool) → bit a ≤ 1

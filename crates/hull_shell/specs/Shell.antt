@@ -8,7 +8,7 @@ use Prim.Native.Nat.{ℕ, zero, suc, _+_, _/_, _<_}
 use lib.Dec.{eqb}
 use lib.ListN.{getD}
 use Rattle.hull_links.specs.declared.HullSize.{HullSize}
-use Rattle.hull_links.specs.Tests.{_&_, _or_, all}
+use Rattle.hull_links.specs.Tests.{_&_, _or_, all, any}
 use Rattle.hull_links.specs.Links.{next, twin}
 
 -- a path of next and twin leads from half-edge 0 to e
@@ -34,11 +34,6 @@ listed p i (suc k) = p i ∷ listed p (suc i) k
 -- the half-edges of which p is true
 unfoldable pub edgesWith : HullSize → (ℕ → Bool) → List Bool
 edgesWith s p = listed p 0 (s .«half_edges»)
-
--- the test p is true of one of 0, 1, .., k - 1
-unfoldable pub any : (ℕ → Bool) → ℕ → Bool
-any p zero = false
-any p (suc k) = any p k or p k
 
 -- d is in the set, and e is its next or its twin
 unfoldable pub leads : HullSize → List ℕ → List Bool → ℕ → ℕ → Bool

@@ -19,7 +19,7 @@ use Rattle.manifold.specs.declared.Answer.{Answer}
 use Rattle.units.specs.Limits.{speculative}
 use Rattle.manifold.specs.Records.{emptyContact, hitSet}
 use Rattle.hull_links.specs.declared.HullSize.{HullSize}
-use Rattle.axis.specs.declared.Apart.{Apart}
+use Rattle.axis.specs.declared.AxisApart.{AxisApart}
 use Rattle.axis.specs.declared.Search.{Search}
 use Rattle.axis.specs.Search.{searchOf}
 use Rattle.axis.specs.Meaning.{cacheOf}
@@ -55,7 +55,7 @@ module _ (s : HullSize) (n : List Float) (l : List ℕ) (t : HullSize) (m : List
       sym (call-worked s n l t m k x cache capacity wide right) ∙ sym (at-rest s n l t m k x cache (none .not-2) (none .not-3) (none .not-4))
 
   -- an axis apart: no points, and the axis in the cache
-  pub apart-left : (a : Apart) → Search.Apart a ≡ searchOf s n l t m k x → answerOf cache (fullOf s n l t m k x)
+  pub apart-left : (a : AxisApart) → Search.Apart a ≡ searchOf s n l t m k x → answerOf cache (fullOf s n l t m k x)
       ≡ accepted (retiredOf (cache .kind)) emptyContact (cacheOf a)
   unfolding fullOf afterSearch apartBuilt answerOf
   apart-left a e = ap (λ (z : Search). answerOf cache (afterSearch s n l t m k x z)) (sym e)

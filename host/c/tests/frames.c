@@ -51,6 +51,9 @@ LIES(contact_outcome, retired, 116, 1);
 HOLDS(sizeof(contact_step_result) == 16);
 LIES(contact_step_result, status, 0, 1);
 LIES(contact_step_result, points, 8, 8);
+HOLDS(sizeof(contact_apart_result) == 2);
+LIES(contact_apart_result, status, 0, 1);
+LIES(contact_apart_result, apart, 1, 1);
 
 #ifdef __cplusplus
 extern "C" {

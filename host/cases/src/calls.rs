@@ -1,8 +1,12 @@
-//! What a call is given, the refusals of documents 01 and 02 that come before any work, and the comparison of two answers.
+//! What a call is given, and the question whether two hulls are apart; the refusals of documents 01 and 02 that come before any
+//! work, and the comparison of two answers.
 
 use crate::same;
-use crate::shapes::{broken_rule, Shape};
-use records::{Contact, HullLists, HullSize, Outcome, Point, SatCache, Transform, Unit, Vec3};
+use crate::shapes::{broken_rule, higher, Shape};
+use records::{
+    Apart, Contact, HullLists, HullSize, Outcome, Point, SatCache, Transform, Unit, Vec3,
+    MAX_MANIFOLD_POINTS,
+};
 
 #[cfg(rust_text)]
 pub use text::Work;
@@ -37,7 +41,35 @@ pub struct Call<'a> {
     pub cache: SatCache,
 }
 
-/// The same, owned.
+/// What the question is given whether two hulls are apart.
+#[derive(Debug, Clone, Copy)]
+pub struct Question<'a> {
+    pub a: HullLists<'a>,
+    pub b: HullLists<'a>,
+    pub transform: Transform,
+}
+
+/// The largest separation of A's faces, of B's faces and of the pairs of edges. The text finds each by `>`, so that a NaN is never
+/// it; that of the pairs is minus infinity where none has one.
+#[derive(Debug, Clone, Copy, PartialEq)]
+pub struct Largest {
+    pub face_a: f32,
+    pub face_b: f32,
+    pub edge: f32,
+}
+
+impl Largest {
+    pub fn of_all(self) -> f32 {
+        higher(higher(self.face_a, self.face_b), self.edge)
+    }
+
+    /// Strictly.
+    pub fn is_above(self, distance: f32) -> bool {
+        self.of_all() > distance
+    }
+}
+
+/// What a call is given, owned.
 #[derive(Debug, Clone)]
 pub struct Given {
     pub capacity: i32,
@@ -91,7 +123,28 @@ impl Call<'_> {
         }
     }
 
-    /// The first of refusals 1, 2, 17, 3 and 4 that is given, 0 if none: "17, units differ, after 2 and before 3".
+    /// The first of refusals 1, 2, 17, 3 and 4 that is given, 0 if none.
+    pub fn refusal(&self) -> u8 {
+        match self.question().refusal() {
+            0 if !cache_in_range(self.a.size, self.b.size, self.cache) => 4,
+            refusal => refusal,
+        }
+    }
+}
+
+impl<'a> Call<'a> {
+    /// The question about the same hulls in the same places.
+    pub fn question(&self) -> Question<'a> {
+        Question {
+            a: self.a,
+            b: self.b,
+            transform: self.transform,
+        }
+    }
+}
+
+impl<'a> Question<'a> {
+    /// The first of refusals 1, 2, 17 and 3 that is given, 0 if none: "17, units differ, after 2 and before 3".
     pub fn refusal(&self) -> u8 {
         if broken_rule(self.a) != 0 {
             1
@@ -101,10 +154,27 @@ impl Call<'_> {
             17
         } else if !transform_accepted(self.a.size.unit, self.transform) {
             3
-        } else if !cache_in_range(self.a.size, self.b.size, self.cache) {
-            4
         } else {
             0
+        }
+    }
+
+    /// The answer where it is a refusal.
+    pub fn without_work(&self) -> Option<Apart> {
+        match self.refusal() {
+            0 => None,
+            status => Some(Apart { status, apart: 0 }),
+        }
+    }
+
+    /// The call about the same hulls in the same places, with room for four points and a cache that has no axis.
+    pub fn call(&self) -> Call<'a> {
+        Call {
+            capacity: MAX_MANIFOLD_POINTS as i32,
+            a: self.a,
+            b: self.b,
+            transform: self.transform,
+            cache: SatCache::EMPTY,
         }
     }
 }

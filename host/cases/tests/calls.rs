@@ -1,12 +1,12 @@
-//! The refusals that stand for the text's panics are those that the panics' own words tell; and a retired type acts as type
-//! 0, but for the mark.
+//! The refusals that stand for the text's panics are those that the panics' own words tell; a retired type acts as type 0, but
+//! for the mark; and the second writing of the question whether two hulls are apart.
 #![cfg(rust_text)]
 
-use cases::calls::{caches, empty, same_answers, Answer, Call, Work};
+use cases::calls::{caches, empty, same_answers, Answer, Call, Question, Work};
 use cases::pairs::{self, placed, Pair};
-use cases::sorts::padded;
+use cases::sorts::{acceptable, padded, SORTS};
 use cases::{convert, Numbers};
-use oracle::open::{collide_hulls, LocalManifold};
+use oracle::open::{collide_hulls, LocalManifold, SeparatingFeature};
 use oracle::quiet;
 use records::SatCache;
 use std::panic::catch_unwind;
@@ -128,4 +128,40 @@ fn places_are_compared() {
         assert_eq!(std::mem::replace(place, 0), 255);
         assert!(!same_answers(&answer, &placed), "point {number}");
     }
+}
+
+/// The largest of the pairs of edges as they are transcribed is the text's best one, to the last bit, with NaN among them too; and
+/// the text's own search, which stops early, ends apart exactly where the question is answered by a yes.
+#[test]
+fn every_axis() {
+    let mut numbers = Numbers::new(3);
+    let n = &mut numbers;
+    let (mut with_nan, mut answers) = (0, [0; 2]);
+    for turn in 0..8000 {
+        let pair = match SORTS.get(turn % (SORTS.len() + 1)) {
+            Some((_, make)) => acceptable(make, n.unit(), n),
+            None => pairs::any(n),
+        };
+        let work = Work::of_pair(&pair);
+        let edges = work.edge_separations();
+        let mut largest = f32::NEG_INFINITY;
+        for &separation in &edges {
+            if separation > largest {
+                largest = separation;
+            }
+        }
+        assert_eq!(largest.to_bits(), work.largest().edge.to_bits(), "{pair:?}");
+        with_nan += usize::from(edges.iter().any(|edge| edge.is_nan()));
+        let question = Question {
+            a: pair.a.lent(),
+            b: pair.b.lent(),
+            transform: convert::our_transform(pair.transform),
+        };
+        let wanted = question.wanted();
+        let stopped = work.search().separated_feature != SeparatingFeature::InvalidAxis;
+        assert_eq!(wanted.accepted(), Ok(stopped), "{pair:?}");
+        answers[usize::from(stopped)] += 1;
+    }
+    assert!(with_nan > 10, "{with_nan}");
+    assert!(answers.iter().all(|&count| count > 1000), "{answers:?}");
 }

@@ -11,13 +11,17 @@
 //! A simulator with many hulls and pairs calls [`step`] once a step: it answers every pair as [`collide`] does and judges each hull
 //! once, where call by call each is judged in each of its pairs. [`Stack`] holds the hulls.
 //!
+//! A host that wants a yes or a no and no points, such as an editor in which a log is dragged about, asks [`apart`]: whether two
+//! hulls are farther from each other than the speculative distance. It takes no cache.
+//!
 //! # What a host must know
 //!
 //! - Units: a hull has one of four length units ([`Unit`], metres if nothing is said), and both hulls of a call have the same.
 //!   B's place and everything that comes out is in that unit and in A's frame, the normal from A to B; a separation is below
 //!   zero where the hulls overlap. Limits and tolerances go by the unit: [`Unit::farthest`] and those beside it.
 //! - Threads: the library has no state and allocates nothing; any number of threads may call it.
-//! - Stack: a call and a [`step`] need at most 24 KB of their thread's stack, [`answer`] 32 KB, beside what the thread needs itself.
+//! - Stack: a call, a [`step`] and [`apart`] need at most 24 KB of their thread's stack, [`answer`] 32 KB, beside what the thread
+//!   needs itself.
 //! - Floating point: the default environment, round to nearest, no flush to zero, no denormals as zero. Nothing tests it,
 //!   and with another one the answers are others.
 //! - Platform: x86-64 Linux. The library is looked for in the repository's target/staticlib, or in the folder that the
@@ -88,6 +92,7 @@
 //! # Ok::<(), contact::HullError>(())
 //! ```
 
+pub use apart::{apart, apart_record};
 pub use broken::Broken;
 pub use builder::{BuildError, Counted, HullBuilder, OwnedHull, FLAT_TOLERANCE};
 pub use hull::{Hull, HullError};
@@ -98,6 +103,7 @@ pub use step::{step, step_lists, Cause, NoRoom, PairAnswer, PairRefused, StepRoo
 use std::fmt;
 use std::ops::Deref;
 
+mod apart;
 mod broken;
 mod builder;
 mod hull;
@@ -141,7 +147,7 @@ impl fmt::Display for OtherLibrary {
 
 impl std::error::Error for OtherLibrary {}
 
-/// A refusal of a call; where it is one of a hull, with the rule that the hull breaks and the place. It prints as one sentence, in
+/// A refusal of a call or a question; where it is one of a hull, with the rule that the hull breaks and the place. It prints as one sentence, in
 /// which lengths are told in the hulls' unit.
 #[derive(Debug, Clone, PartialEq, Eq)]
 pub struct Refused {
@@ -165,17 +171,21 @@ impl Refused {
     /// println!("{refused}"); // refusal 1: hull A breaks a rule: H1 is broken: there are 0 numbers, and the sizes ask for 34; ..
     /// ```
     pub fn of(outcome: &Outcome, a: &Hull, b: &Hull) -> Option<Refused> {
-        let refusal = outcome.refusal()?;
+        Some(Refused::new(outcome.refusal()?, a, b))
+    }
+
+    /// The same of a refusal by itself, as [`apart`] has it.
+    pub fn new(refusal: Refusal, a: &Hull, b: &Hull) -> Refused {
         let broken = match refusal {
             Refusal::HullA => a.broken(),
             Refusal::HullB => b.broken(),
             _ => None,
         };
-        Some(Refused {
+        Refused {
             refusal,
             broken,
             units: [a, b].map(|hull| hull.size().unit),
-        })
+        }
     }
 
     /// What was refused, with the place in a hull, both units or the limit of the unit where the refusal is about these.

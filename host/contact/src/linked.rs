@@ -1,7 +1,7 @@
 //! What `libcontactlib.a` exports. A slice is a pointer and a length.
 
 use crate::{check_library, OtherLibrary};
-use records::{HullSize, Outcome, SatCache, Step, Transform};
+use records::{Apart, HullSize, Outcome, SatCache, Step, Transform};
 
 /// Nothing of a library with other records is called: they would be misread in silence.
 #[inline]
@@ -56,6 +56,20 @@ extern "C" {
         transform: Transform,
         cache: *mut SatCache,
     ) -> Outcome;
+
+    pub fn contact_apart(
+        numbers_a: *const f32,
+        numbers_a_len: usize,
+        links_a: *const u8,
+        links_a_len: usize,
+        size_a: HullSize,
+        numbers_b: *const f32,
+        numbers_b_len: usize,
+        links_b: *const u8,
+        links_b_len: usize,
+        size_b: HullSize,
+        transform: Transform,
+    ) -> Apart;
 
     pub fn contact_step(
         numbers: *const f32,

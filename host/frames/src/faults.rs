@@ -9,6 +9,8 @@ use crate::{hex, wanted, LONGEST_LINE};
 use cases::calls::Given;
 use records::SatCache;
 
+#[cfg(rust_text)]
+pub mod apart;
 mod shells;
 pub mod steps;
 #[cfg(rust_text)]

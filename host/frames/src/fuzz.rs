@@ -1,6 +1,8 @@
 //! Any bytes through the library: frames of every sort that are changed a little or much, and bytes at random, into places
-//! of every size; and any lists through its step. Round `r` of a seed depends on these two numbers alone.
+//! of every size; any lists through its step; and any hulls and transform through its question whether they are apart. Round `r`
+//! of a seed depends on these two numbers alone.
 
+use crate::apart;
 use crate::codec::{
     CACHE, CALL, CAPACITY, FLIP, HULL_A, LONGEST_ANSWER, RETIRED, ROOT, STATUS, TRANSFORM,
     UNIT_AND_SIZES,
@@ -19,8 +21,8 @@ const FRAMES: usize = 4000;
 /// Longer ones are left to the other runs, so that there are more rounds.
 const LONGEST: usize = 10_000;
 
-/// One round of so many is a step.
-const STEP_ROUNDS: u64 = 8;
+/// One round of so many is a step, and one a question.
+const OTHER_ROUNDS: u64 = 8;
 
 /// How many differences are shown, and how often the run says how far it is.
 const SHOWN: u64 = 5;
@@ -53,6 +55,10 @@ pub struct Fuzzed {
     small_steps: u64,
     pairs: u64,
     accepted_pairs: u64,
+    questions: u64,
+    /// Of the questions those that are refused, and those with a yes.
+    refused_questions: u64,
+    yes: u64,
 }
 
 impl Fuzz {
@@ -97,8 +103,10 @@ impl Fuzz {
         let base = Numbers::new(self.seed).word();
         let mut numbers = Numbers::new(base.wrapping_add(round));
         let n = &mut numbers;
-        if round % STEP_ROUNDS == STEP_ROUNDS - 1 {
-            return self.step(round, n, library, fuzzed);
+        match round % OTHER_ROUNDS {
+            3 => return self.question(round, n, library, fuzzed),
+            7 => return self.step(round, n, library, fuzzed),
+            _ => {}
         }
         let frame = self.frame(n);
         let size = match n.below(16) {
@@ -149,6 +157,31 @@ impl Fuzz {
             if fuzzed.different <= SHOWN {
                 eprintln!(
                     "different: seed {}, round {round}, a step: {what}",
+                    self.seed
+                );
+            }
+        }
+    }
+
+    /// A question about any hulls in any places.
+    fn question(
+        &self,
+        round: u64,
+        n: &mut Numbers,
+        library: &mut impl Library,
+        fuzzed: &mut Fuzzed,
+    ) {
+        let given = apart::any::wild(n);
+        let question = given.call().question();
+        let told = apart::wanted::of(&question);
+        let came = library.apart(&question);
+        let call = library.collide(&question.call());
+        fuzzed.add_question(told.as_ref());
+        if let Some(what) = apart::differs(&question, told.as_ref(), came, &call) {
+            fuzzed.different += 1;
+            if fuzzed.different <= SHOWN {
+                eprintln!(
+                    "different: seed {}, round {round}, a question: {what}",
                     self.seed
                 );
             }
@@ -260,6 +293,16 @@ impl Fuzzed {
         *count += 1;
     }
 
+    fn add_question(&mut self, told: Option<&apart::wanted::Told>) {
+        self.rounds += 1;
+        self.questions += 1;
+        match told.map(|told| told.answer.accepted()) {
+            None => self.untold += 1,
+            Some(Err(_)) => self.refused_questions += 1,
+            Some(Ok(yes)) => self.yes += u64::from(yes),
+        }
+    }
+
     fn add_step(&mut self, wanted: &steps::wanted::Written) {
         self.rounds += 1;
         self.steps += 1;
@@ -291,13 +334,17 @@ impl std::fmt::Display for Fuzzed {
             small_steps,
             pairs,
             accepted_pairs,
+            questions,
+            refused_questions,
+            yes,
         } = self;
         write!(
             f,
             "{rounds} rounds, {different} different; roots and pairs {roots_and_pairs}, calls accepted {accepted}, {marked} of \
              them of a retired type, refused {refused}, {unlike_units} of them for unlike units, faults {faults}, too little room \
              {small}, without an answer to hold it to {untold}; steps {steps}, {small_steps} of them without room, pairs of the \
-             others {pairs}, {accepted_pairs} of them accepted"
+             others {pairs}, {accepted_pairs} of them accepted; questions {questions}, {refused_questions} of them refused, {yes} \
+             a yes"
         )
     }
 }

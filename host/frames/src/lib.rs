@@ -3,6 +3,7 @@
 //! answers. Nothing here calls the proved code. Where document 01 is named, it is meant as document 02's requests have
 //! changed it.
 
+pub mod apart;
 pub mod codec;
 pub mod faults;
 pub mod fuzz;

@@ -5,16 +5,19 @@ use crate::held::{Came, Held, Verdict};
 use crate::sorts::Frames;
 use crate::steps::Lent;
 use crate::wanted;
-use cases::calls::{Answer, Call};
-use records::Step;
+use cases::calls::{Answer, Call, Question};
+use records::{Apart, Step};
 
-/// The exported functions that answer a call, a frame and a step, or stand-ins for them.
+/// The exported functions that answer a call, a question, a frame and a step, or stand-ins for them.
 pub trait Library {
     /// The answer to a frame in bytes, written to `answer`: how many bytes it has. Where `answer` has fewer than
     /// [`LONGEST_ANSWER`], that is 0 and nothing is written.
     fn answer(&mut self, frame: &[u8], answer: &mut [u8]) -> usize;
 
     fn collide(&mut self, call: &Call) -> Answer;
+
+    /// Whether the two hulls are apart.
+    fn apart(&mut self, question: &Question) -> Apart;
 
     /// One step over these lists.
     fn step(&mut self, lists: &mut Lent) -> Step;

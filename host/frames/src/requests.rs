@@ -1,14 +1,16 @@
 //! Document 02's worked examples, a list for each request: the call in a frame, and what its answer must hold. The values
 //! were worked out by another writing of documents 01 and 02, not by the one here.
 
-use crate::codec::call_frame;
+use crate::codec::{self, call_frame, Asked};
 use crate::sorts::marked::frame;
-use cases::calls::Call;
+use cases::calls::{Call, Given};
 use cases::shapes::solids::{bands, block, frustum, polygon, pyramid, tipped, Solid, OCTAGON};
-use cases::shapes::{Link, Shape};
-use records::{Quat, SatCache, Transform, Vec3, UNUSED_PLACE};
+use cases::shapes::{Link, Padding, Shape};
+use cases::sorts::about;
+use records::{Apart, Quat, SatCache, Transform, Unit, Vec3, UNUSED_PLACE};
 use std::f64::consts::TAU;
 
+/// A call, and what its answer must hold.
 pub struct Example {
     pub words: &'static str,
     pub frame: Vec<u8>,
@@ -20,11 +22,28 @@ pub struct Example {
     pub retired: u8,
 }
 
+/// A question about the hulls and the transform of a call's frame, and its answer.
+pub struct ApartExample {
+    pub words: &'static str,
+    pub frame: Vec<u8>,
+    pub answer: Apart,
+}
+
+impl ApartExample {
+    /// What the frame gives.
+    pub fn given(&self) -> Given {
+        match codec::decode(&self.frame) {
+            Ok(Asked::Call(given)) => given,
+            _ => panic!("an example that is no call: {}", self.words),
+        }
+    }
+}
+
 /// The places of no point, and of four points of four candidates, which come all and in their order.
 const NONE: [u8; 4] = [UNUSED_PLACE; 4];
 const IN_ORDER: [u8; 4] = [0, 1, 2, 3];
 
-/// By the letter of the request, in the order in which they landed.
+/// Examples of calls by the letter of the request, in the order in which they landed.
 pub fn by_request() -> [(char, Vec<Example>); 5] {
     [
         ('k', finite_separations().into()),
@@ -269,7 +288,7 @@ fn places() -> [Example; 6] {
         },
         Example {
             words: "d 3: two wedges edge on edge: one edge point",
-            frame: wedges(),
+            frame: wedges(0.0),
             status: 0,
             cache: SatCache {
                 kind: 4,
@@ -326,8 +345,8 @@ const WAYS: [[f64; 3]; 4] = [
     [0.5, 1.4, 1.5],
 ];
 
-/// A's ridge goes along x and looks up, B's along y and looks down; both lie at z = 0.
-fn wedges() -> Vec<u8> {
+/// A's ridge goes along x and looks up, B's along y and looks down; A's lies at z = 0, B's at this z.
+fn wedges(z: f32) -> Vec<u8> {
     let faces = [
         vec![0, 1, 2],
         vec![5, 4, 3],
@@ -344,19 +363,14 @@ fn wedges() -> Vec<u8> {
         })
     };
     let (a, b) = (wedge(|x, y, z| [x, y, -z]), wedge(|y, x, z| [x, y, z]));
-    frame(4, &a, &b, [0.0; 3], SatCache::EMPTY)
+    frame(4, &a, &b, [0.0, 0.0, z], SatCache::EMPTY)
 }
 
 /// A cone of 64 sides on a block's top face, whose edge lies at x = 2 m, B at x = 1.001 m. The cone's corners lie half a step
 /// round, and B is turned half a step back: one corner points along x and is beyond the edge, the two beside it are not, so
 /// that what the two faces share has 65 corners.
 fn corner_lost(cache: SatCache) -> Vec<u8> {
-    let mut solid = pyramid(64, 1.0, 1.0);
-    let half_steps = polygon(128, 1.0).into_iter().skip(1).step_by(2);
-    for (corner, [x, y]) in solid.corners.iter_mut().zip(half_steps) {
-        *corner = [x, y, 0.0];
-    }
-    let (block, cone) = (hull(&block([2.0, 2.0, 1.0])), planed(&solid));
+    let (block, cone) = (hull(&block([2.0, 2.0, 1.0])), planed(&cone(64)));
     let half_turn = TAU / 256.0;
     call_frame(&Call {
         capacity: 4,
@@ -381,12 +395,22 @@ fn corner_lost(cache: SatCache) -> Vec<u8> {
     })
 }
 
+/// A pyramid of radius and height 1 whose corners lie half a step round.
+fn cone(sides: usize) -> Solid {
+    let mut solid = pyramid(sides, 1.0, 1.0);
+    let half_steps = polygon(2 * sides, 1.0).into_iter().skip(1).step_by(2);
+    for (corner, [x, y]) in solid.corners.iter_mut().zip(half_steps) {
+        *corner = [x, y, 0.0];
+    }
+    solid
+}
+
 /// Request c: a hull is one closed shell without a hole.
 fn shells() -> [Example; 7] {
     let (cube, ring) = (block([1.0; 3]), square_ring());
     let beside = |by: f64| block([1.0; 3]).moved([by, 0.0, 0.0]);
     let one = hull(&cube);
-    let far = hull(&cube.joined(&beside(50.0)));
+    let far = two_boxes();
     let both = planed(&cube.joined(&ring.clone().moved([6.0, 0.0, 0.0])));
     let mut long = met(&cube, &beside(2.0));
     // The face +x of the first and the face -x of the second, which lie on each other.
@@ -450,6 +474,12 @@ fn shells() -> [Example; 7] {
             retired: 0,
         },
     ]
+}
+
+/// Two cubes of half-size 1 in one record, 50 apart.
+fn two_boxes() -> Shape {
+    let cube = block([1.0; 3]);
+    hull(&cube.joined(&cube.clone().moved([50.0, 0.0, 0.0])))
 }
 
 /// Both under one list of corners and one of faces; a corner of the second that lies on one of the first is that one.
@@ -524,7 +554,7 @@ fn numbered_anew() -> Shape {
 
 /// Request i: a hull carries its length unit, and the limits go by it.
 fn units() -> [Example; 10] {
-    let cube = |unit: usize| of_unit(&block([unit as f64; 3]), unit);
+    let cube = cube_of_unit;
     let beside = |by: f64| of_unit(&block([10.0; 3]).moved([by, 0.0, 0.0]), 10);
     let at = |a: &Shape, b: &Shape, x: f32, cache| frame(4, a, b, [x, 0.0, 0.0], cache);
     let alike = |unit, x| at(&cube(unit), &cube(unit), x, SatCache::EMPTY);
@@ -620,6 +650,98 @@ fn units() -> [Example; 10] {
             0,
         ),
     ]
+}
+
+/// Request b: whether two hulls are apart.
+pub fn apart() -> [ApartExample; 8] {
+    let example = |words, frame, status, apart| ApartExample {
+        words,
+        frame,
+        answer: Apart { status, apart },
+    };
+    let [limit, above, _] = about(Unit::Metres.speculative_distance());
+    let not_finite = |a: &Shape, b: &Shape| frame(4, a, b, [f32::NAN, 0.0, 0.0], SatCache::EMPTY);
+    [
+        example("b 1: cubes, x = 3", cubes(4, 3.0, SatCache::EMPTY), 0, 1),
+        example(
+            "b 2: cubes, x = 2: they touch",
+            cubes(4, 2.0, SatCache::EMPTY),
+            0,
+            0,
+        ),
+        example(
+            "b 3: A left of x = 0, B right of it, A's face +x moved to just the speculative distance: not strictly above",
+            with_face_at(limit),
+            0,
+            0,
+        ),
+        example("b 4: the same one float more", with_face_at(above), 0, 1),
+        example(
+            "b 5: two wedges edge over edge, 0.03 apart in z: no face says so, one edge pair does",
+            wedges(0.03),
+            0,
+            1,
+        ),
+        example(
+            "b 6: two boxes in one record as A and the transform NaN: refused by 1, and no yes",
+            not_finite(&two_boxes(), &cube(1.0, 1.0)),
+            1,
+            0,
+        ),
+        example(
+            "b 7: a pyramid that touches the cube, with padding lanes outside that win: the call is refused by 5, the question is not",
+            padding_that_wins(),
+            0,
+            0,
+        ),
+        example(
+            "b 8: units 1 and 10 and the transform NaN: refused by 17",
+            not_finite(&cube_of_unit(1), &cube_of_unit(10)),
+            17,
+            0,
+        ),
+    ]
+}
+
+/// Two cubes that meet at x = 0, the plane of A's face +x so far inside of it.
+fn with_face_at(separation: f32) -> Vec<u8> {
+    let [mut a, b] = [-1.0, 1.0].map(|x| planed(&block([1.0; 3]).moved([x, 0.0, 0.0])));
+    let plane = a.plane(1);
+    a.numbers[plane + 3] = -separation;
+    frame(4, &a, &b, [0.0; 3], SatCache::EMPTY)
+}
+
+/// The cube and a pyramid of 5 sides beside its face -x, turned so that a side of its base lies along the face; its padding lanes are
+/// one point below the base, and that is the support of the face.
+fn padding_that_wins() -> Vec<u8> {
+    let mut pyramid = planed(&cone(5));
+    pyramid.pad(Padding::Point([0.14933823, 0.96730417, -0.20498952]));
+    call_frame(&Call {
+        capacity: 4,
+        a: cube(1.0, 1.0).lent(),
+        b: pyramid.lent(),
+        transform: Transform {
+            p: Vec3 {
+                x: -1.9525049,
+                y: 0.34564272,
+                z: -0.25938362,
+            },
+            q: Quat {
+                v: Vec3 {
+                    x: -0.0018864865,
+                    y: 0.0016843535,
+                    z: 0.7111233,
+                },
+                s: -0.7030628,
+            },
+        },
+        cache: SatCache::EMPTY,
+    })
+}
+
+/// A cube of half-size one metre in a unit of this number.
+fn cube_of_unit(unit: usize) -> Shape {
+    of_unit(&block([unit as f64; 3]), unit)
 }
 
 /// The solid's hull, whose lengths are in a unit of this number, known or not.

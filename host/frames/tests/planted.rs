@@ -1,20 +1,21 @@
 //! The comparisons tell a fault: each of a program, and some that only a library can have.
 #![cfg(rust_text)]
 
-use cases::calls::{Answer, Call};
+use cases::calls::{Answer, Call, Question};
 use frames::codec::LONGEST_ANSWER;
 use frames::fuzz::Fuzz;
 use frames::library::{self, Library};
 use frames::sorts::Frames;
 use frames::steps::{self, Lent};
-use frames::{faults, hex, program, wanted};
-use records::Step;
+use frames::{apart, faults, hex, program, wanted};
+use records::{Apart, Step};
 use std::process::Command;
 use std::time::Duration;
 
 const COUNT: usize = 4000;
 const ROUNDS: u64 = 4000;
 const STEPS: usize = 300;
+const PAIRS: usize = 4000;
 
 fn plain(fault: Option<&str>) -> Command {
     let mut command = Command::new(env!("CARGO_BIN_EXE_plain"));
@@ -67,8 +68,12 @@ struct StandIn {
     unplaced: bool,
     /// Takes hull A's unit for hull B's in a call by records.
     one_unit: bool,
+    /// Says of every pair of edges in a call by records that it is 0 apart.
+    edges_touch: bool,
     /// Makes a step so.
     steps: faults::steps::Steps,
+    /// Answers a question so.
+    questions: faults::apart::Questions,
 }
 
 const RIGHT: StandIn = StandIn {
@@ -80,7 +85,9 @@ const RIGHT: StandIn = StandIn {
     unmarked: false,
     unplaced: false,
     one_unit: false,
+    edges_touch: false,
     steps: faults::steps::right,
+    questions: faults::apart::right,
 };
 
 impl Library for StandIn {
@@ -110,6 +117,9 @@ impl Library for StandIn {
         if self.keeps_hit {
             answer.cache.hit = call.cache.hit;
         }
+        if self.edges_touch && answer.cache.kind == 4 {
+            answer.cache.separation = 0;
+        }
         if self.unmarked {
             answer.outcome.retired = 0;
         }
@@ -119,6 +129,10 @@ impl Library for StandIn {
             }
         }
         answer
+    }
+
+    fn apart(&mut self, question: &Question) -> Apart {
+        (self.questions)(question)
     }
 
     fn step(&mut self, lists: &mut Lent) -> Step {
@@ -140,9 +154,47 @@ fn stepped(mut library: StandIn) -> u64 {
     steps::run(1, STEPS, &mut library).different
 }
 
+/// How many questions differ.
+fn asked(mut library: StandIn) -> u64 {
+    apart::run(1, PAIRS, &mut library).different
+}
+
 #[test]
 fn a_right_library_is_right() {
-    assert_eq!((fuzzed(RIGHT), held(RIGHT), stepped(RIGHT)), (0, 0, 0));
+    let different = [fuzzed(RIGHT), held(RIGHT), stepped(RIGHT), asked(RIGHT)];
+    assert_eq!(different, [0; 4]);
+}
+
+#[test]
+fn faults_of_a_question_are_told() {
+    for (fault, questions) in faults::apart::FAULTS {
+        assert!(asked(StandIn { questions, ..RIGHT }) > 0, "{fault}");
+    }
+    for fault in [
+        "A's faces left out",
+        "B's faces left out",
+        "pairs of edges left out",
+        "2 before 1",
+        "17 before 2",
+        "3 before 17",
+        "17 not given",
+        "a yes on a refusal",
+    ] {
+        let mut all = faults::apart::FAULTS.into_iter();
+        let (_, questions) = all.find(|&(name, _)| name == fault).expect(fault);
+        assert!(fuzzed(StandIn { questions, ..RIGHT }) > 0, "{fault}");
+    }
+}
+
+/// A call that says otherwise than the question.
+#[test]
+fn a_call_that_contradicts_is_told() {
+    let edges_touch = true;
+    let different = asked(StandIn {
+        edges_touch,
+        ..RIGHT
+    });
+    assert!(different > 0);
 }
 
 #[test]

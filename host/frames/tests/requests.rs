@@ -5,8 +5,9 @@
 use frames::codec::{
     decode, Asked, COUNT, HULL_A, NEXT_CACHE, PLACES, RETIRED, STATUS, UNIT_AND_SIZES,
 };
-use frames::requests::{self, Example};
+use frames::requests::{self, ApartExample, Example};
 use frames::{hex, wanted};
+use records::Apart;
 use std::fs;
 use std::path::{Path, PathBuf};
 
@@ -28,6 +29,21 @@ fn examples() {
         assert_eq!(places, example.places, "{}", example.words);
         assert_eq!(answer[RETIRED], example.retired, "{}", example.words);
     }
+}
+
+fn asked(example: &ApartExample) -> Apart {
+    example.given().call().question().wanted()
+}
+
+#[test]
+fn examples_of_questions() {
+    for example in requests::apart() {
+        assert_eq!(asked(&example), example.answer, "{}", example.words);
+    }
+    // The call about the same hulls.
+    let statuses = requests::apart()
+        .map(|example| wanted::to_frame(&example.frame).expect("the Rust text is at hand")[STATUS]);
+    assert_eq!(statuses, [0, 0, 0, 0, 0, 1, 5, 17]);
 }
 
 /// The folder of the examples, which stands beside that of the Rust text.
@@ -65,29 +81,40 @@ fn frame_as_landed(letter: char, mut frame: Vec<u8>) -> Vec<u8> {
     frame
 }
 
-/// Both files of a request have one line an example.
+/// The lines of a file of the folder.
+fn lines(folder: &Path, name: String) -> Vec<Vec<u8>> {
+    let text = fs::read_to_string(folder.join(name)).expect("the file is there");
+    let lines = text.lines().map(|line| hex::read(line.as_bytes()));
+    lines.collect::<Option<Vec<_>>>().expect("digits")
+}
+
+/// Frames and answers of a request: both files have one line an example.
+fn files(folder: &Path, letter: char, examples: usize) -> impl Iterator<Item = (Vec<u8>, Vec<u8>)> {
+    let [frames, answers] = ["hex", "answers"].map(|end| lines(folder, format!("{letter}.{end}")));
+    assert_eq!([frames.len(), answers.len()], [examples; 2]);
+    frames.into_iter().zip(answers)
+}
+
 #[test]
 fn files_of_the_examples() {
     let Some(folder) = folder() else {
         println!("left out, since the folder of the examples is not at hand");
         return;
     };
-    let lines = |name: String| {
-        let text = fs::read_to_string(folder.join(name)).expect("the file is there");
-        let lines = text.lines().map(|line| hex::read(line.as_bytes()));
-        lines.collect::<Option<Vec<_>>>().expect("digits")
-    };
     for (letter, examples) in requests::by_request() {
-        let (frames, answers) = (
-            lines(format!("{letter}.hex")),
-            lines(format!("{letter}.answers")),
-        );
-        assert_eq!([frames.len(), answers.len()], [examples.len(); 2]);
-        for (example, (frame, marked)) in examples.iter().zip(frames.iter().zip(&answers)) {
+        let files = files(&folder, letter, examples.len());
+        for (example, (frame, marked)) in examples.iter().zip(files) {
             let own = frame_as_landed(letter, example.frame.clone());
-            assert!(own == *frame, "frame of {}", example.words);
+            assert!(own == frame, "frame of {}", example.words);
             let ours = answer_as_landed(letter, answer(example));
-            assert_eq!(ours, *marked, "{}", example.words);
+            assert_eq!(ours, marked, "{}", example.words);
         }
+    }
+    let examples = requests::apart();
+    let files = files(&folder, 'b', examples.len());
+    for (example, (frame, marked)) in examples.iter().zip(files) {
+        assert!(example.frame == frame, "frame of {}", example.words);
+        let Apart { status, apart } = asked(example);
+        assert_eq!([status, apart], marked[..], "{}", example.words);
     }
 }

@@ -1,6 +1,6 @@
 //! Parts of hulls.rs that stand inside its functions and so have no door, transcribed line by line over the text's own
 //! functions: here the cuts of `build_face_a_contact` and so the candidates of a contact, in `again` the cached axis of
-//! `collide_hulls`.
+//! `collide_hulls`; and in `edges` every pair of edges of the search, of which the text shows the best.
 
 use crate::hull::{get_hull_edges, get_hull_faces, get_hull_planes, get_hull_points, HullData};
 use crate::manifold::clip::{build_polygon, clip_polygon, find_incident_face};
@@ -12,8 +12,10 @@ use crate::math_functions::{
 use crate::open;
 
 pub use again::{again, Again, Crossing, End};
+pub use edges::edge_separations;
 
 mod again;
+mod edges;
 
 /// The text's two buffers. It has them with room for 64; with room for 128 no cut fills one, and what a full cut puts out can
 /// be read.

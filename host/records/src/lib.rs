@@ -17,7 +17,7 @@ pub use unit::{Unit, UnknownUnit};
 
 /// The number of these records and of the functions that take them. The library has the number that it was built with
 /// (`contact_abi`), and the header has it too (`CONTACT_ABI`); where two of them differ, nothing is called.
-pub const ABI: u32 = 6;
+pub const ABI: u32 = 7;
 
 /// The most points of a contact, and the least capacity with which a call does any work.
 pub const MAX_MANIFOLD_POINTS: usize = 4;
@@ -183,5 +183,33 @@ impl Outcome {
     #[inline]
     pub fn retired_type_read(&self) -> bool {
         self.retired != 0
+    }
+}
+
+/// What the question returns whether two hulls are apart.
+#[derive(Debug, Clone, Copy, PartialEq, Eq)]
+#[repr(C)]
+#[must_use]
+pub struct Apart {
+    /// 0, or the number of the refusal: 1, 2, 17 or 3.
+    pub status: u8,
+    /// 1 where they are apart; else 0, as with a refusal.
+    pub apart: u8,
+}
+
+impl Apart {
+    /// Why the question was refused, if it was.
+    #[inline]
+    pub fn refusal(self) -> Option<Refusal> {
+        Refusal::of_status(self.status)
+    }
+
+    /// Whether they are apart, or why that is not told. Only status 0 is an answer, whatever the other byte says.
+    #[inline]
+    pub fn accepted(self) -> Result<bool, Refusal> {
+        match self.refusal() {
+            None => Ok(self.apart != 0),
+            Some(refusal) => Err(refusal),
+        }
     }
 }

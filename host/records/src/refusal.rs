@@ -37,7 +37,8 @@ impl Refusal {
     ];
 
     /// The refusal of this number; none where it is 0, and only there: nothing but 0 says that a call was accepted. A call's
-    /// status is at most 6 or it is 17, a flip's is 0 or 8, and a step's 0 or 21.
+    /// status is at most 6 or it is 17, that of a question whether hulls are apart at most 3 or 17, a flip's is 0 or 8, and a
+    /// step's 0 or 21.
     #[inline]
     pub fn of_status(status: u8) -> Option<Refusal> {
         if status == 0 {

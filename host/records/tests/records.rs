@@ -25,6 +25,7 @@ fn layouts() {
     lies!(HullRecord, 24, numbers 0, links 4, unit 8, vertices 12, half_edges 16, faces 20);
     lies!(Pair, 8, a 0, b 4);
     lies!(Step, 16, status 0, points 8);
+    lies!(Apart, 2, status 0, apart 1);
 }
 
 /// A step's lists: each record takes as many places as is stated, and what is put in is read again.
@@ -162,6 +163,21 @@ fn outcomes() {
     for status in [7, 9, 16, 18, 255] {
         let unknown = Outcome { status, ..refused };
         assert_eq!(unknown.accepted(), Err(Refusal::Unknown { status }));
+    }
+}
+
+/// Only status 0 is an answer, whatever the other byte says.
+#[test]
+fn questions() {
+    for (apart, told) in [(0, false), (1, true)] {
+        let answer = Apart { status: 0, apart };
+        assert_eq!((answer.refusal(), answer.accepted()), (None, Ok(told)));
+        for status in 1..=u8::MAX {
+            let refused = Apart { status, apart };
+            let refusal = refused.accepted().expect_err("refused");
+            assert_eq!(refusal.number(), status);
+            assert_eq!(refused.refusal(), Some(refusal));
+        }
     }
 }
 

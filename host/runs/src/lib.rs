@@ -1,9 +1,9 @@
 //! What the runs share beside their cases: the proved answers, and the records of single layers beside the text's.
 
-use cases::calls::{Answer, Call};
+use cases::calls::{Answer, Call, Question};
 use cases::convert;
 use cases::shapes::Shape;
-use contact::{Hull, HullLists, Rule, Step};
+use contact::{Apart, Hull, HullLists, Rule, Step};
 use frames::library::Library;
 use frames::steps::Lent;
 use oracle::math_functions::mul_sub;
@@ -42,6 +42,13 @@ pub fn ours(call: &Call) -> Answer {
     Answer { outcome, cache }
 }
 
+/// The proved answer to a question.
+#[inline]
+pub fn apart(question: &Question) -> Apart {
+    let (a, b) = (question.a.into(), question.b.into());
+    contact::apart_record(&a, &b, question.transform)
+}
+
 /// The number of the first rule that a hull breaks, 0 if none, by the proved validator.
 #[inline]
 pub fn broken_rule(hull: HullLists) -> u8 {
@@ -58,6 +65,10 @@ impl Library for Proved {
 
     fn collide(&mut self, call: &Call) -> Answer {
         ours(call)
+    }
+
+    fn apart(&mut self, question: &Question) -> Apart {
+        apart(question)
     }
 
     fn step(&mut self, lists: &mut Lent) -> Step {

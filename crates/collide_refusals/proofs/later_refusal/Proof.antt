@@ -1,44 +1,38 @@
--- `later_refusal`: the tests in the table's order.
-use mathlib.Core.Path.{sym, _∙_}
+-- `later_refusal`: what the place is refused by, then the cache.
+use mathlib.Core.Path.{sym, ap, _∙_}
+use Prim.Native.Nat.{ℕ}
 use borrow.Author.Tests.{not-true, not-false}
-use Rattle.collide_refusals.proofs.Cases.{later-17, later-3, later-4, later-none}
 use borrow.Author.Needs.{needs}
+use Rattle.collide_refusals.proofs.Cases.{placed-first, placed-passed, four, not-four}
 use Rattle.collide_refusals.proofs.later_refusal.Statement.{statement}
 use Rattle.collide_refusals.proofs.later_refusal.Tie as tie
 
+placed-refusal-requires : tie.Need-placed-refusal-requires
+placed-refusal-requires c κs = search needs
+
 returns : tie.Need-returns
-returns c = let a = c .before .before .before .args in later-17 (a .size-a) (a .size-b) (a .transform) (a .cache) (c .if1 .taken)
-
-transform-accepted-requires : tie.Need-transform-accepted-requires
-transform-accepted-requires c κs = search needs
-
-returns-2 : tie.Need-returns-2
-returns-2 c = let a = c .before .before .before .before .before .args in
-    later-3 (a .size-a) (a .size-b) (a .transform) (a .cache) (c .before .before .if1 .left) (sym (c .before .transform-accepted .ensures) ∙ not-true _
-    (c .if2 .taken))
+returns c = let p = c .before .placed-refusal in let a = c .before .before .args in
+    p .ensures ∙ placed-first (a .size-a) (a .size-b) (a .transform) _ (λ z. c .if1 .taken (p .ensures ∙ z))
 
 cache-right-requires : tie.Need-cache-right-requires
 cache-right-requires c κs = search needs
 
-returns-3 : tie.Need-returns-3
-returns-3 c = let a = c .before .before .before .before .before .before .before .args in
-    later-4 (a .size-a) (a .size-b) (a .transform) (a .cache) (c .before .before .before .before .if1 .left) (sym
-    (c .before .before .before .transform-accepted .ensures) ∙ not-false _ (c .before .before .if2 .left))
-    (sym (c .before .cache-right .ensures) ∙ not-true _ (c .if3 .taken))
+returns-2 : tie.Need-returns-2
+returns-2 c = let p = c .before .before .before .placed-refusal in let a = c .before .before .before .before .args in
+    four (a .size-a) (a .size-b) (a .cache) (sym (c .before .cache-right .ensures) ∙ not-true _ (c .if2 .taken))
+    ∙ placed-passed (a .size-a) (a .size-b) (a .transform) _ (sym (p .ensures) ∙ c .before .before .if1 .left)
 
-returns-4 : tie.Need-returns-4
-returns-4 c = let a = c .before .before .before .before .before .before .before .args in
-    later-none (a .size-a) (a .size-b) (a .transform) (a .cache) (c .before .before .before .before .if1 .left) (sym
-    (c .before .before .before .transform-accepted .ensures) ∙ not-false _ (c .before .before .if2 .left))
-    (sym (c .before .cache-right .ensures) ∙ not-false _ (c .if3 .left))
+returns-3 : tie.Need-returns-3
+returns-3 c = let p = c .before .before .before .placed-refusal in let a = c .before .before .before .before .args in
+    not-four (a .size-a) (a .size-b) (a .cache) (sym (c .before .cache-right .ensures) ∙ not-false _ (c .if2 .left))
+    ∙ placed-passed (a .size-a) (a .size-b) (a .transform) _ (sym (p .ensures) ∙ c .before .before .if1 .left)
 
 pub later-refusal-spec : {M : Type 1} → statement M
 later-refusal-spec =
     tie.close
     (tie.spec
+    placed-refusal-requires
     returns
-    transform-accepted-requires
-    returns-2
     cache-right-requires
-    returns-3
-    returns-4)
+    returns-2
+    returns-3)

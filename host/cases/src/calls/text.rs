@@ -1,8 +1,9 @@
 //! The work by the Rust text.
 
-use super::{empty, same_answers, Answer, Call};
+use super::{empty, same_answers, Answer, Call, Largest, Question};
 use crate::convert;
 use crate::pairs::Pair;
+use oracle::constants::speculative_distance;
 use oracle::core::with_length_units;
 use oracle::hull::HullData;
 use oracle::math_functions::Transform;
@@ -11,7 +12,7 @@ use oracle::open::{
 };
 use oracle::quiet;
 use oracle::transcribed::{self, again, Again, End};
-use records::{Contact, Outcome, SatCache, Unit, MAX_MANIFOLD_POINTS};
+use records::{Apart, Contact, Outcome, SatCache, Unit, MAX_MANIFOLD_POINTS};
 
 /// The bits of a NaN that a call works out.
 const NAN: u32 = 0x7fc0_0000;
@@ -30,6 +31,31 @@ impl Call<'_> {
     pub fn wanted_once(&self) -> Answer {
         self.without_work()
             .unwrap_or_else(|| Work::of_call(self).answer_of_copy(self.capacity, self.cache))
+    }
+}
+
+impl Question<'_> {
+    /// What document 02 says (b), the search done by the text: "a search that goes through every axis and then looks at the largest
+    /// separation", which is a yes where that is strictly above the speculative distance.
+    pub fn wanted(&self) -> Apart {
+        self.without_work().unwrap_or_else(|| {
+            let work = Work::of_call(&self.call());
+            Apart {
+                status: 0,
+                apart: work.largest().is_above(work.speculative()).into(),
+            }
+        })
+    }
+}
+
+impl Largest {
+    /// Of a search to its end.
+    pub fn of(query: &AxisQuery) -> Largest {
+        Largest {
+            face_a: query.face_a.separation,
+            face_b: query.face_b.separation,
+            edge: query.edge.separation,
+        }
     }
 }
 
@@ -159,6 +185,21 @@ impl Work {
     /// The best axis of each kind, however far apart the hulls are.
     pub fn search_to_end(&self) -> AxisQuery {
         self.in_unit(|| search(&self.a, &self.b, self.transform, false))
+    }
+
+    /// The largest separations of a search through every axis.
+    pub fn largest(&self) -> Largest {
+        Largest::of(&self.search_to_end())
+    }
+
+    /// Those of every pair of edges that forms an axis, NaN among them.
+    pub fn edge_separations(&self) -> Vec<f32> {
+        transcribed::edge_separations(&self.a, &self.b, self.transform)
+    }
+
+    /// The text's speculative distance in the hulls' unit.
+    pub fn speculative(&self) -> f32 {
+        self.in_unit(speculative_distance)
     }
 
     /// The refusal that the text's panic stands for: "5, 6 as the work meets them", after a cached face. The text also

@@ -308,12 +308,12 @@ pub fn wild(n: &mut Numbers) -> Lists {
     }
 }
 
-fn byte(n: &mut Numbers) -> u8 {
+pub(crate) fn byte(n: &mut Numbers) -> u8 {
     n.word() as u8
 }
 
 /// Fewer than so many of anything.
-fn many<T>(most: usize, one: impl Fn(&mut Numbers) -> T, n: &mut Numbers) -> Vec<T> {
+pub(crate) fn many<T>(most: usize, one: impl Fn(&mut Numbers) -> T, n: &mut Numbers) -> Vec<T> {
     (0..n.below(most)).map(|_| one(n)).collect()
 }
 
@@ -335,7 +335,8 @@ fn change(lists: &mut Lists, n: &mut Numbers) {
     }
 }
 
-fn change_list<T: Copy>(list: &mut Vec<T>, to: T, other_length: bool, n: &mut Numbers) {
+/// One place, or the length.
+pub(crate) fn change_list<T: Copy>(list: &mut Vec<T>, to: T, other_length: bool, n: &mut Numbers) {
     let place = n.below(list.len() + 1);
     match list.get_mut(place) {
         _ if other_length && n.below(2) == 0 => list.truncate(place),

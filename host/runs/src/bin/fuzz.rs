@@ -1,5 +1,6 @@
 //! Any bytes through the library that hosts link: frames changed a little or much and bytes at random, into places of
-//! every size, each answer compared with the one that document 01 wants; and one round in eight any lists through its step.
+//! every size, each answer compared with the one that document 01 wants; one round in eight any lists through its step, and one any
+//! hulls and transform through its question whether they are apart.
 //!
 //!     fuzz [MINUTES [SEED [ROUND]]]
 //!

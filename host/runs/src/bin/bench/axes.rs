@@ -24,19 +24,33 @@ const BATCHES: usize = 100;
 const LARGEST_PAIRS: usize = 400;
 
 /// A pair in the records of both sides.
-struct Pair<'a> {
+pub struct Pair<'a> {
     kind: &'static str,
     ours: (Accepted<'a>, Accepted<'a>, Placed),
     theirs: (&'a HullData, &'a HullData, reading::Transform),
 }
 
-impl Pair<'_> {
-    fn ours(&self) -> Searched {
+impl<'a> Pair<'a> {
+    /// The pair, and its hulls in the text's records.
+    pub fn new(kind: &'static str, pair: &'a pairs::Pair, [a, b]: &'a [HullData; 2]) -> Self {
+        let transform = convert::our_transform(pair.transform);
+        Pair {
+            kind,
+            ours: (
+                accepted(&pair.a),
+                accepted(&pair.b),
+                Placed::new(pair.unit(), transform),
+            ),
+            theirs: (a, b, pair.transform),
+        }
+    }
+
+    pub fn ours(&self) -> Searched {
         let (a, b, placed) = self.ours;
         probes::compute_separating_axis(a, b, placed)
     }
 
-    fn theirs(&self) -> AxisQuery {
+    pub fn theirs(&self) -> AxisQuery {
         let (a, b, transform) = self.theirs;
         search(a, b, transform, true)
     }
@@ -87,15 +101,7 @@ fn largest(n: &mut Numbers) {
         .map(|(_, pair)| [&pair.a, &pair.b].map(convert::hull))
         .collect();
     let pairs: Vec<Pair> = (pairs.iter().zip(&hulls))
-        .map(|((kind, pair), [a, b])| Pair {
-            kind,
-            ours: (
-                accepted(&pair.a),
-                accepted(&pair.b),
-                Placed::new(Unit::Metres, convert::our_transform(pair.transform)),
-            ),
-            theirs: (a, b, pair.transform),
-        })
+        .map(|((kind, pair), hulls)| Pair::new(kind, pair, hulls))
         .collect();
     let count = pairs.len();
     head(&format!("axis search, {count} pairs, largest"), "Rust text");

@@ -4,8 +4,8 @@
 //!     bench [quick] [PART]... [--chart FILE] [-- PROGRAM [ARGUMENTS]]
 //!
 //! PROGRAM is the proved program, `target/bin/contact` where none is named. With `quick` there is one batch of each, to see
-//! that all of it runs; its times mean nothing. Where parts are named, only these are timed: roots, validators, cuts, axes, calls,
-//! answers, programs, steps, growth. With FILE the growth is drawn there, as SVG.
+//! that all of it runs; its times mean nothing. Where parts are named, only these are timed: roots, validators, cuts, axes, apart,
+//! calls, answers, programs, steps, growth. With FILE the growth is drawn there, as SVG.
 
 use cases::Numbers;
 use std::env::args;
@@ -14,6 +14,8 @@ use std::time::Instant;
 
 #[cfg(rust_text)]
 mod answers;
+#[cfg(rust_text)]
+mod apart;
 #[cfg(rust_text)]
 mod axes;
 #[cfg(rust_text)]
@@ -36,11 +38,12 @@ mod validators;
 const CALLS: usize = 1024;
 const BATCHES: usize = 600;
 
-const PARTS: [&str; 9] = [
+const PARTS: [&str; 10] = [
     "roots",
     "validators",
     "cuts",
     "axes",
+    "apart",
     "calls",
     "answers",
     "programs",
@@ -94,6 +97,9 @@ fn main() {
             }
         }
         // Numbers of their own, so that the same is timed in every run.
+        if timed("apart") {
+            apart::run(&mut Numbers::new(4));
+        }
         if timed("steps") {
             steps::run(&mut Numbers::new(2));
         }
@@ -168,4 +174,11 @@ fn timed_calls<T>(calls: usize, inputs: &[T], mut call: impl FnMut(&T) -> usize)
     }
     let nanoseconds = start.elapsed().as_nanos() as f64;
     (nanoseconds / calls as f64, sum)
+}
+
+/// The least of these times, and the one in the middle.
+#[cfg(rust_text)]
+fn least_and_median(mut times: Vec<f64>) -> (f64, f64) {
+    times.sort_by(f64::total_cmp);
+    (times[0], times[times.len() / 2])
 }

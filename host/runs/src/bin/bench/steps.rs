@@ -3,7 +3,7 @@
 //! judges every hull once; and call by call, where each hull is judged in each of its pairs. Once with the hulls numbered by place and
 //! the pairs in their order, once with both at random.
 
-use super::batches;
+use super::{batches, least_and_median};
 use cases::calls::{same_answers, Answer, Call};
 use cases::convert;
 use cases::pairs::moved;
@@ -349,9 +349,4 @@ fn timed(points: usize, step: impl FnOnce() -> usize) -> f64 {
     let time = 1e3 * start.elapsed().as_secs_f64();
     assert_eq!(came, points);
     time
-}
-
-fn least_and_median(mut times: Vec<f64>) -> (f64, f64) {
-    times.sort_by(f64::total_cmp);
-    (times[0], times[times.len() / 2])
 }

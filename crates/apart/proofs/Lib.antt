@@ -1,0 +1,4 @@
+pub mod Through
+pub mod Early
+pub mod Axes
+pub mod Asked

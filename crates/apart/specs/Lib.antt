@@ -1,0 +1,4 @@
+pub mod Every
+pub mod Question
+pub mod Axes
+pub mod inner
