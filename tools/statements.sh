@@ -4,7 +4,7 @@
 set -u
 cd "${1:-$(dirname "$0")/..}" || exit 1
 
-for file in crates/promises/proofs/{Refusals,Units,Shells,Separations,Incident,Steps,Retired,Rounds,Points,Stepping,Asking}.antt; do
+for file in crates/promises/proofs/{Refusals,Units,Shells,Separations,Incident,Steps,Retired,Rounds,Points,Stepping,Questions}.antt; do
     awk -v file="${file##*/}" '
         function tell() { if (text != "") { gsub(/[ \t]+/, " ", text); print file ": " text }; text = ""; name = "" }
         { line = $0; sub(/^[ \t]+/, "", line) }

@@ -14,4 +14,4 @@ pub mod Retired
 pub mod Incident
 pub mod Units
 pub mod Stepping
-pub mod Asking
+pub mod Questions

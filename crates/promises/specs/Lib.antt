@@ -7,4 +7,4 @@ pub mod Retired
 pub mod Incident
 pub mod Units
 pub mod Stepping
-pub mod Asking
+pub mod Questions

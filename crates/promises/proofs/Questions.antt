@@ -42,7 +42,7 @@ use Rattle.promises.specs.Numbers.{Exactly}
 use Rattle.promises.specs.Retired.{NoAxis}
 use Rattle.promises.specs.Sources.{Source, face-a, face-b, edges, none, small-capacity, refused, apart, not-touching, touches, ifTouching}
 use Rattle.promises.specs.OneCall.{winnerOf, triedOver, orPair, searchSource, fullSource}
-use Rattle.promises.specs.Asking.{StopsApart, ComesToItsEnd}
+use Rattle.promises.specs.Questions.{StopsApart, ComesToItsEnd}
 use Rattle.promises.proofs.Steps.{full-search, apart-left}
 
 -- ---- the reason that a call has no candidates
@@ -55,23 +55,26 @@ saysApart (none refused) = false
 saysApart (none apart) = true
 saysApart (none not-touching) = false
 
+of-a-face : (z : Bool) (f v g w : ℕ) → saysApart (cond z (face-a f v) (face-b g w)) ≡ false
+unfolding saysApart
+of-a-face true f v g w = refl
+of-a-face false f v g w = refl
+
+winner-not-apart : (a b : Axis) → saysApart (winnerOf a b) ≡ false
+unfolding winnerOf
+winner-not-apart a b = of-a-face (Ieee.lt (b .separation) (a .separation)) (a .«index_a») (a .«index_b») (b .«index_b») (b .«index_a»)
+
 -- what a search finds is never called apart
 found-not-apart : (s : HullSize) (n : List Float) (l : List ℕ) (t : HullSize) (m : List Float) (k : List ℕ) (x : Transform) (f : Found)
     → saysApart (searchSource s n l t m k x (Search.Found f)) ≡ false
-unfolding searchSource ifTouching winnerOf orPair saysApart
+unfolding searchSource ifTouching orPair saysApart
 found-not-apart s n l t m k x f =
-    let a = f .«face_a» in
-    let b = f .«face_b» in
-    let winner = winnerOf a b in
-    let won = of-a-face (Ieee.lt (b .separation) (a .separation)) (a .«index_a») (a .«index_b») (b .«index_b») (b .«index_a») in
-    with-pair (ifTouching s n l t m k x winner) (f .edge) (if-touching (touches s n l t m k x winner) winner won)
+    let winner = winnerOf (f .«face_a») (f .«face_b») in
+    with-pair (ifTouching s n l t m k x winner) (f .edge)
+    (if-touching (touches s n l t m k x winner) winner (winner-not-apart (f .«face_a») (f .«face_b»)))
   where
     Not : Source → Type 0
     Not source = saysApart source ≡ false
-
-    of-a-face : (z : Bool) (f v g w : ℕ) → Not (cond z (face-a f v) (face-b g w))
-    of-a-face true f v g w = refl
-    of-a-face false f v g w = refl
 
     if-touching : (z : Bool) (source : Source) → Not source → Not (cond z source (none not-touching))
     if-touching true source h = h
