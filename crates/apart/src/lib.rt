@@ -12,7 +12,7 @@ use vector::Transform;
 
 // A status of 0 and whether the hulls are apart, 1 or 0; or the number of a refusal, and 0.
 #[repr(C)]
-#[derive(Drop)]
+#[derive(Clone, Copy)]
 pub struct Apart {
     pub status: u8,
     pub apart: u8,

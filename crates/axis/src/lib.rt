@@ -12,7 +12,7 @@ use vector::{Transform, Vec3};
 
 // An axis in A's frame, from A to B: how far apart the hulls are along it, and the numbers of what it joins.
 #[repr(C)]
-#[derive(Drop)]
+#[derive(Clone, Copy)]
 pub struct Axis {
     pub normal: Vec3,
     pub separation: f32,
@@ -21,7 +21,7 @@ pub struct Axis {
 }
 
 // The hulls are apart: the kind is that of the cache, 2 along a face of A, 3 along a face of B, 4 along a pair of edges.
-#[derive(Drop)]
+#[derive(Clone, Copy)]
 pub struct AxisApart {
     pub kind: u8,
     pub separation: f32,
@@ -30,20 +30,20 @@ pub struct AxisApart {
 }
 
 // The best pair of edges, where there is one.
-#[derive(Drop)]
+#[derive(Clone, Copy)]
 pub enum EdgeAxis {
     Pair(Axis),
     None,
 }
 
-#[derive(Drop)]
+#[derive(Clone, Copy)]
 pub struct Found {
     pub face_a: Axis,
     pub face_b: Axis,
     pub edge: EdgeAxis,
 }
 
-#[derive(Drop)]
+#[derive(Clone, Copy)]
 pub enum Search {
     Apart(AxisApart),
     Found(Found),

@@ -7,7 +7,7 @@ use units::speculative_distance;
 use vector::Vec3;
 
 // `apart` says that the search has stopped at this axis. Where nothing was found, the separation is minus infinity and the rest is zero.
-#[derive(Drop)]
+#[derive(Clone, Copy)]
 pub struct Lead {
     pub found: bool,
     pub apart: bool,

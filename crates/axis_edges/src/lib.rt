@@ -14,7 +14,7 @@ use vector::scalar::max_float;
 const PARALLEL_EDGE_TOL: f32 = 0.005;
 
 // An edge of A: its direction, the normals of its two faces and its first vertex.
-#[derive(Drop)]
+#[derive(Clone, Copy)]
 pub struct EdgeA {
     pub direction: Vec3,
     pub normal0: Vec3,
@@ -23,7 +23,7 @@ pub struct EdgeA {
 }
 
 // An edge of B in A's frame, negated: the normals of its two faces, its direction and its first vertex.
-#[derive(Drop)]
+#[derive(Clone, Copy)]
 pub struct EdgeB {
     pub normal0: Vec3,
     pub normal1: Vec3,

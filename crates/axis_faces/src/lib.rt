@@ -15,14 +15,14 @@ use vector::arithmetic::{abs, dot, neg};
 use vector::shape::{aabb_center, aabb_extents};
 
 // Whose faces are tried.
-#[derive(Drop)]
+#[derive(Clone, Copy)]
 pub enum Side {
     A,
     B,
 }
 
 // The axis of one face: its direction in A's frame, how far the other hull is above the face along it, and the support vertex.
-#[derive(Drop)]
+#[derive(Clone, Copy)]
 pub struct Face {
     pub normal: Vec3,
     pub separation: f32,

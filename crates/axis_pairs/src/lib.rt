@@ -91,7 +91,7 @@ fn fill_whole(
 }
 
 // Where the rows of the two faces of an edge of B begin.
-#[derive(Drop)]
+#[derive(Clone, Copy)]
 struct Rows {
     first: usize,
     second: usize,

@@ -8,7 +8,7 @@ use vector::Vec3;
 
 // Where corners stand in the lent lists, and how many there are. Past 64 of them only the number is right.
 #[repr(C)]
-#[derive(Drop)]
+#[derive(Clone, Copy)]
 pub struct Kept {
     pub from: usize,
     pub count: usize,

@@ -9,7 +9,7 @@ use vector::arithmetic::{dot, normalize, sub};
 use vector::scalar::abs_float;
 
 // A half-edge, and how far it lies along the normal.
-#[derive(Drop)]
+#[derive(Clone, Copy)]
 pub struct Flattest {
     pub edge: usize,
     pub projection: f32,

@@ -9,7 +9,7 @@ use vector::scalar::max_float;
 use vector::{Transform, Vec3};
 
 // An edge as the hull holds it: where half-edges e and e + 1 start, and the normals of their faces.
-#[derive(Drop)]
+#[derive(Clone, Copy)]
 struct Edge {
     from: Vec3,
     to: Vec3,
@@ -18,7 +18,7 @@ struct Edge {
 }
 
 // An edge: its direction, where it ends, and the normals of the faces on its two sides.
-#[derive(Drop)]
+#[derive(Clone, Copy)]
 pub struct Ridge {
     pub direction: Vec3,
     pub end: Vec3,

@@ -12,7 +12,7 @@ use vector::scalar::abs_float;
 
 // What was built: the contact, the next cache, a status of 0 or the number of a refusal, and whether the hulls touch.
 // Where they do not touch the contact is empty and the cache cleared. The bytes stand last, so that the contact is copied by words.
-#[derive(Drop)]
+#[derive(Clone, Copy)]
 pub struct Built {
     pub contact: Contact,
     pub cache: SatCache,
@@ -110,7 +110,7 @@ pub fn answer_of(cache: SatCache, built: Built) -> Answer
 }
 
 // A hit, with the contact that comes of it; else the full search has to be made, or the work met a refusal, whose number is the status.
-#[derive(Drop)]
+#[derive(Clone, Copy)]
 pub struct Cached {
     pub contact: Contact,
     pub status: u8,

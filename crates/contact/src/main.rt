@@ -13,7 +13,7 @@ use stream::{Part, tell_last, tell_part};
 use stream_pending::Pending;
 
 // The characters `from` up to `to` of the chunk, which were read and are not told yet.
-#[derive(Drop)]
+#[derive(Clone, Copy)]
 pub struct Left {
     pub from: usize,
     pub to: usize,
@@ -35,7 +35,7 @@ fn refill(chunk: &mut [u8], from: usize, to: usize) -> Left
 }
 
 // How many places were handed to the write, and whether it took them all.
-#[derive(Drop)]
+#[derive(Clone, Copy)]
 pub struct Written {
     pub count: usize,
     pub ok: bool,
@@ -63,7 +63,7 @@ fn write_answers(out: &[u8], n: usize) -> Written
 
 // Where the program stands between two turns. The characters `from` up to `to` of the chunk were read and are not told yet; `part` was told in the last
 // turn, its `count` places of `out` were handed to the write, and `ok` says whether that took them all.
-#[derive(Drop)]
+#[derive(Clone, Copy)]
 pub struct State {
     pub from: usize,
     pub to: usize,
@@ -140,7 +140,7 @@ fn finish(line: &[u8], p: Pending, out: &mut [u8], ok: bool) -> usize
 }
 
 // What is held at the end of the input, how many places were handed to the last write, and whether the writes before it took everything.
-#[derive(Drop)]
+#[derive(Clone, Copy)]
 pub struct End {
     pub held: Pending,
     pub count: usize,

@@ -5,7 +5,7 @@ ghost use Rattle.hull_links.specs.Links.{padded, planes_from, next, twin, origin
 
 // The length unit of a hull, so many a metre, and how many vertices, half-edges and faces it has.
 #[repr(C)]
-#[derive(Drop)]
+#[derive(Clone, Copy)]
 pub struct HullSize {
     pub unit: usize,
     pub vertices: usize,

@@ -6,7 +6,7 @@ ghost use Rattle.bounds.specs.LowBits.{embed_of};
 ghost use Rattle.lanes.specs.Lanes.{FiniteW, embed_w_of, least_of, least_w_of, lesser_of, min_index_of};
 
 #[repr(C)]
-#[derive(Drop)]
+#[derive(Clone, Copy)]
 pub struct FloatW {
     pub x: f32,
     pub y: f32,

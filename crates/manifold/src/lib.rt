@@ -12,7 +12,7 @@ pub const MAX_MANIFOLD_POINTS: usize = 4;
 // The axis that the last call found: how far apart, its kind and what it joins, and whether it served again.
 // The separation is a bit pattern, since a NaN's bits must be kept.
 #[repr(C)]
-#[derive(Drop)]
+#[derive(Clone, Copy)]
 pub struct SatCache {
     pub separation: u32,
     pub kind: u8,
@@ -23,7 +23,7 @@ pub struct SatCache {
 
 // The tag of a point: the two edges that meet in it, each with the shape that owns it (0 is A, 1 is B).
 #[repr(C)]
-#[derive(Drop)]
+#[derive(Clone, Copy)]
 pub struct FeaturePair {
     pub owner1: u8,
     pub index1: u8,
@@ -33,7 +33,7 @@ pub struct FeaturePair {
 
 // A corner of the polygon that is being cut, and its distance from the reference face.
 #[repr(C)]
-#[derive(Drop)]
+#[derive(Clone, Copy)]
 pub struct ClipVertex {
     pub position: Vec3,
     pub separation: f32,
@@ -43,7 +43,7 @@ pub struct ClipVertex {
 // A point of a contact. `place` says which candidate it came from: the candidate's place in the list as it stood before any pick, 0 for the one
 // candidate of a pair of edges, 255 where there is no point.
 #[repr(C)]
-#[derive(Drop)]
+#[derive(Clone, Copy)]
 pub struct Point {
     pub position: Vec3,
     pub separation: f32,
@@ -53,7 +53,7 @@ pub struct Point {
 
 // At most four points; those at and above the count are unused, and the normal is zero where the count is 0.
 #[repr(C)]
-#[derive(Drop)]
+#[derive(Clone, Copy)]
 pub struct Contact {
     pub points: [Point; MAX_MANIFOLD_POINTS],
     pub normal: Vec3,
@@ -63,7 +63,7 @@ pub struct Contact {
 // The status is 0, or the number of the refusal. The mark `retired` is 1 where the call was accepted, its capacity was 4 or more and the cache that it read
 // has a retired type (6, 7 or 8), else 0.
 #[repr(C)]
-#[derive(Drop)]
+#[derive(Clone, Copy)]
 pub struct Outcome {
     pub status: u8,
     pub contact: Contact,
@@ -72,7 +72,7 @@ pub struct Outcome {
 
 // What one call returns, and the next cache.
 #[repr(C)]
-#[derive(Drop)]
+#[derive(Clone, Copy)]
 pub struct Answer {
     pub outcome: Outcome,
     pub cache: SatCache,

@@ -5,7 +5,7 @@ ghost use Rattle.manifold.specs.Pairs.{owner_of, pair_of, refused_flip, flip_of}
 use crate::FeaturePair;
 
 // Which shape an edge belongs to.
-#[derive(Drop)]
+#[derive(Clone, Copy)]
 pub enum FeatureOwner {
     ShapeA,
     ShapeB,
@@ -13,7 +13,7 @@ pub enum FeatureOwner {
 
 // A pair turned round; or the refusal's number and four zeros.
 #[repr(C)]
-#[derive(Drop)]
+#[derive(Clone, Copy)]
 pub struct Flipped {
     pub status: u8,
     pub pair: FeaturePair,

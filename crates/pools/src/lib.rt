@@ -8,7 +8,7 @@ ghost use Rattle.pools.specs.inner.Reads.{Words, PlaceRead};
 use hull_links::HullSize;
 
 // Where a hull's numbers and links begin, and its size.
-#[derive(Drop)]
+#[derive(Clone, Copy)]
 pub struct Place {
     pub numbers: usize,
     pub links: usize,

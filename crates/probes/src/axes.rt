@@ -11,7 +11,7 @@ use vector::{Transform, Vec3};
 
 // Apart, with its kind, separation and numbers, or both faces and, where `pair` says so, the edge pair. What a case does not have is zero.
 #[repr(C)]
-#[derive(Drop)]
+#[derive(Clone, Copy)]
 pub struct Searched {
     pub apart: bool,
     pub kind: u8,

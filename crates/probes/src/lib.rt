@@ -22,7 +22,7 @@ use manifold::pairs::FeatureOwner;
 use vector::{Aabb, Plane, Transform, Vec3};
 
 #[repr(C)]
-#[derive(Drop)]
+#[derive(Clone, Copy)]
 pub struct Vectors {
     pub sum: Vec3,
     pub difference: Vec3,
@@ -41,7 +41,7 @@ pub struct Vectors {
 }
 
 #[repr(C)]
-#[derive(Drop)]
+#[derive(Clone, Copy)]
 pub struct Rotations {
     pub by_rows: Vec3,
     pub by_columns: Vec3,
@@ -53,7 +53,7 @@ pub struct Rotations {
 }
 
 #[repr(C)]
-#[derive(Drop)]
+#[derive(Clone, Copy)]
 pub struct Shapes {
     pub separation: f32,
     pub through: Plane,
@@ -63,7 +63,7 @@ pub struct Shapes {
 }
 
 #[repr(C)]
-#[derive(Drop)]
+#[derive(Clone, Copy)]
 pub struct Lines {
     pub perp: Vec3,
     pub point1: Vec3,
@@ -74,7 +74,7 @@ pub struct Lines {
 }
 
 #[repr(C)]
-#[derive(Drop)]
+#[derive(Clone, Copy)]
 pub struct Limits {
     pub slop: f32,
     pub speculative: f32,

@@ -14,7 +14,7 @@ use vector::scalar::max_float;
 const BIAS: f32 = 0.95;
 
 // The best candidate so far: its index in the list as it stands, and its score.
-#[derive(Drop)]
+#[derive(Clone, Copy)]
 pub struct Best {
     pub found: bool,
     pub index: usize,
@@ -22,7 +22,7 @@ pub struct Best {
 }
 
 // The first three points, and which way round they go.
-#[derive(Drop)]
+#[derive(Clone, Copy)]
 pub struct Triangle {
     pub a: Vec3,
     pub b: Vec3,

@@ -14,7 +14,7 @@ use pools_rows::{cache_at, put_answer, put_names, put_status, transform_at};
 
 // A status of 0, or 21 where what is lent has no room; and how many points all pairs have together.
 #[repr(C)]
-#[derive(Drop)]
+#[derive(Clone, Copy)]
 pub struct Step {
     pub status: u8,
     pub points: usize,

@@ -17,7 +17,7 @@ use lists::write_byte;
 use stream_pending::{Pending, end_line, goes_on, hold, is_nothing, line_end};
 
 // How many characters were told, what is held behind them, and how many places the answers take.
-#[derive(Drop)]
+#[derive(Clone, Copy)]
 pub struct Part {
     pub taken: usize,
     pub held: Pending,

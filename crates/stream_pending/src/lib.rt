@@ -14,7 +14,7 @@ const LINE_END: u8 = 10;
 const LONGEST: usize = 217;
 
 // What is held of a line whose end has not come: how many characters, and whether there were more than are kept.
-#[derive(Drop)]
+#[derive(Clone, Copy)]
 pub struct Pending {
     pub len: usize,
     pub over: bool,

@@ -7,7 +7,7 @@ use crate::Vec3;
 use crate::arithmetic::{dot, mul_add, normalize, sub};
 
 // The points of two lines that lie nearest to each other, and where on each line they are.
-#[derive(Drop)]
+#[derive(Clone, Copy)]
 pub struct LineDistance {
     pub point1: Vec3,
     pub point2: Vec3,

@@ -7,7 +7,7 @@ pub mod scalar;
 pub mod shape;
 
 #[repr(C)]
-#[derive(Drop)]
+#[derive(Clone, Copy)]
 pub struct Vec3 {
     pub x: f32,
     pub y: f32,
@@ -16,14 +16,14 @@ pub struct Vec3 {
 
 // A quaternion: the vector part and, last, the scalar.
 #[repr(C)]
-#[derive(Drop)]
+#[derive(Clone, Copy)]
 pub struct Quat {
     pub v: Vec3,
     pub s: f32,
 }
 
 #[repr(C)]
-#[derive(Drop)]
+#[derive(Clone, Copy)]
 pub struct Transform {
     pub p: Vec3,
     pub q: Quat,
@@ -31,7 +31,7 @@ pub struct Transform {
 
 // The points v with normal . v = offset.
 #[repr(C)]
-#[derive(Drop)]
+#[derive(Clone, Copy)]
 pub struct Plane {
     pub normal: Vec3,
     pub offset: f32,
@@ -39,7 +39,7 @@ pub struct Plane {
 
 // A box with sides along the axes.
 #[repr(C)]
-#[derive(Drop)]
+#[derive(Clone, Copy)]
 pub struct Aabb {
     pub lower: Vec3,
     pub upper: Vec3,

@@ -47,7 +47,7 @@ pub fn get_point_support(points: [Vec3; 2], d: Vec3) -> usize
 }
 
 // A vertex, and how far along the direction it lies.
-#[derive(Drop)]
+#[derive(Clone, Copy)]
 pub struct Farthest {
     pub vertex: usize,
     pub value: f32,
