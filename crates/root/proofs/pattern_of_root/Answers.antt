@@ -8,7 +8,7 @@ use Rattle.root.proofs.Squares.{Near, in_range}
 use Rattle.root.proofs.Normal.{Norm, lead, subnormal, normal}
 use Rattle.root.proofs.Rounding.{radicand, good, rooted}
 use Rattle.root.proofs.pattern_of_root.Goals as goal
-use Rattle.root.proofs.pattern_of_root.Goals.{After-nearest-q, Joined-b-lt8388608, Then-b-lt8388608}
+use Rattle.root.proofs.pattern_of_root.Goals.{After-nearest-q, Joined-b-lt8388608, Then-b-lt8388608, then-b-lt8388608, else-b-lt8388608}
 
 zeros : (c : Then-b-lt8388608) → (9 ≤ count_leading_zeros 32 c.args.b) × (count_leading_zeros 32 c.args.b ≤ 31)
 zeros c =
@@ -19,10 +19,12 @@ zeros c =
 norm : (c : Joined-b-lt8388608) → Norm c.args.b c.if-b-lt8388608.m c.if-b-lt8388608.a
 norm c =
     let b = c.args.b in
-    ⊎_elim
-    (λ w. subnormal b _ c.if-b-lt8388608.m c.if-b-lt8388608.a (omega arith) w.0.taken (omega (arith, lead b (omega arith) w.0.taken)) w.1 (omega (arith, w.2)))
-    (λ w. normal b c.if-b-lt8388608.m c.if-b-lt8388608.a w.0.left (omega arith) (omega (arith, w.1)) (omega (arith, w.2)))
-    c.if-b-lt8388608.branch
+    elim c.if-b-lt8388608.branch [
+      then-b-lt8388608 w ↦ subnormal b _ c.if-b-lt8388608.m c.if-b-lt8388608.a (omega arith) w.if-b-lt8388608.true
+          (omega (arith, lead b (omega arith) w.if-b-lt8388608.true)) w.m-is (omega (arith, w.a-is))
+    | else-b-lt8388608 w ↦ normal b c.if-b-lt8388608.m c.if-b-lt8388608.a w.if-b-lt8388608.false (omega arith) (omega (arith, w.m-is))
+          (omega (arith, w.a-is))
+    ]
 
 near : (c : After-nearest-q) → Near (radicand c.if-b-lt8388608.m c.if-b-lt8388608.a) c.nearest-q.result
 near c =
@@ -46,13 +48,13 @@ overflow_sub-a c = omega (arith, zeros c)
 
 pub guess-requires : goal.guess-requires
 guess-requires c =
-    let h = norm c.before.before in
+    let h = norm c.before.before.before in
     (h.lo, h.hi, omega arith)
 
 pub nearest-q-requires : goal.nearest-q-requires
 nearest-q-requires c =
     let j = c.before.before.before in
-    let g = good j.if-b-lt8388608.m j.if-b-lt8388608.a (norm j).lo (norm j).hi in
+    let g = good j.if-b-lt8388608.m j.if-b-lt8388608.a (norm j.before).lo (norm j.before).hi in
     (omega (arith, g), omega (arith, g), c.guess.ensures)
 
 pub overflow_mul-result : goal.overflow_mul-result

@@ -17,8 +17,8 @@ use Rattle.root.proofs.root.Goals.{Start}
 held : (c : Start) → T (fits binary32 c.args.x)
 held c = subst T (sym c.well_formed.0.1) tt
 
-both : (c : Start) (r : Float) → T (fits binary32 r) → T (is_root c.args.x r) → T (is_root c.args.x r) × (r ≡ root_of c.args.x)
-both c r f t = (t, is_root_of c.args.x r (held c) f t)
+both : (c : Start) (r : Float) → T (fits binary32 r) → T (is_root c.args.x r) → record { nearest : T (is_root c.args.x r); worked : r ≡ root_of c.args.x }
+both c r f t = record { nearest = t; worked = is_root_of c.args.x r (held c) f t }
 
 pub float_to_bits-b : goal.float_to_bits-b
 float_to_bits-b c = above_no_nan c.args.x c.if-x.true

@@ -1,0 +1,151 @@
+#!/usr/bin/env python3
+"""Mends what `rt check` says of answers that tools/turn_walks.py wrote, where the message alone decides it.
+
+usage: tools/mend_walks.py CRATE..      at the top: checks each crate and mends, until it is proved or nothing is left that this can mend
+
+- a record one or more steps too far in or out, where a lemma takes an earlier one: `.before` is put in or taken out
+- `(a, b)` where the goal has a name for each clause: `record { first = a; second = b }`
+- `⌜…⌝` and the like are left to a person
+"""
+import json
+import os
+import re
+import subprocess
+import sys
+import tempfile
+
+
+def check(crate):
+    r = subprocess.run(["rt", "check"], cwd=os.path.join("crates", crate), capture_output=True, text=True)
+    return r.stdout + r.stderr
+
+
+def names_of(crate):
+    with tempfile.TemporaryDirectory() as d:
+        subprocess.run(["rt", "check", "--generated", d, "--old-names"], cwd=os.path.join("crates", crate), capture_output=True, text=True)
+        p = os.path.join(d, "names.json")
+        if not os.path.exists(p):
+            return {}
+        with open(p) as f:
+            return json.load(f)
+
+
+def parents(names, crate, path):
+    module = os.path.relpath(os.path.dirname(path), "proofs").replace("/", ".")
+    it = names.get(f"Rattle-{crate}-proofs.{module}.Lts")
+    return {p[0]: p[1] for p in it["places"]} if it else {}
+
+
+def depth(parent, place, target):
+    n = 0
+    while place is not None and place != target:
+        place, n = parent.get(place), n + 1
+    return n if place is not None else None
+
+
+def split_tuple(text):
+    """The parts of `(a, b, ..)`, or None: text begins at the bracket. And where it ends."""
+    level, parts, start = 0, [], 1
+    for i, ch in enumerate(text):
+        if ch in "([{":
+            level += 1
+        elif ch in ")]}":
+            level -= 1
+            if level == 0:
+                parts.append(text[start:i])
+                return parts, i + 1
+        elif ch == "," and level == 1:
+            parts.append(text[start:i])
+            start = i + 1
+    return None, 0
+
+
+def offset(text, line, col):
+    lines = text.split("\n")
+    return sum(len(l) + 1 for l in lines[: line - 1]) + col - 1
+
+
+def mend(crate, said, names):
+    edits = {}
+    blocks = re.split(r"\n(?=\./|fn |note:|help:|rt:)", said)
+    for b in blocks:
+        m = re.match(r"(?:so far: )?\./(proofs/[^:]+\.antt):(\d+):(\d+): error: ", b)
+        if not m:
+            continue
+        path, line, col = m.group(1), int(m.group(2)), int(m.group(3))
+        x = re.search(r"one has `[\w.+'-]*\.Lts\.([\w+'-]+)`\s+\(expected\) and the other has `[\w.+'-]*\.Lts\.([\w+'-]+)` \(found\)", b)
+        if x:
+            parent = parents(names, crate, path)
+            down, up = depth(parent, x.group(2), x.group(1)), depth(parent, x.group(1), x.group(2))
+            step = down if down is not None else (-up if up is not None else None)
+            if step:
+                edits.setdefault(path, []).append((line, col, "before", step))
+            continue
+        x = re.search(r"expected type `record \{([^`]*)\}`", b) or re.search(r"the two types are `record \{([^`]*)\}`\s*\(expected\)", b)
+        if not x:
+            x = re.search(r"`record \{((?:[^`{}]|\{[^}]*\})*)\}`\s*\(expected\)", b) or re.search(r"expected `?record \{([^`]*)\}`?", b)
+        if x:
+            fields = []
+            level = 0
+            for part in re.split(r";", x.group(1)):
+                f = re.match(r"\s*([\w'-]+) :", part)
+                if f and level == 0:
+                    fields.append(f.group(1))
+                level += len(re.findall(r"[({\[]", part)) - len(re.findall(r"[)}\]]", part))
+            if fields:
+                edits.setdefault(path, []).append((line, col, "record", fields))
+    done = 0
+    for path, its in edits.items():
+        full = os.path.join("crates", crate, path)
+        with open(full, encoding="utf-8") as f:
+            text = f.read()
+        for line, col, kind, what in sorted(its, key=lambda e: (-e[0], -e[1])):
+            at = offset(text, line, col)
+            if kind == "before":
+                m = re.match(r"([\w']+)((?:\.before)*)(?![\w.'-])", text[at:])
+                if not m:
+                    continue
+                n = m.group(2).count(".before") + what
+                if n < 0:
+                    continue
+                text = text[:at] + m.group(1) + ".before" * n + text[at + m.end():]
+                done += 1
+            else:
+                if text[at] != "(":
+                    continue
+                parts, end = split_tuple(text[at:])
+                if not parts or len([p for p in parts if p.strip()]) != len(what):
+                    continue
+                parts = [p for p in parts if p.strip()]
+                new = "record { " + "; ".join(f"{n} = {p.strip()}" for n, p in zip(what, parts)) + " }"
+                text = text[:at] + new + text[at + end:]
+                done += 1
+        with open(full, "w", encoding="utf-8") as f:
+            f.write(text)
+    return done
+
+
+def main(argv):
+    if not argv:
+        print(__doc__)
+        return 2
+    for crate in argv:
+        names = names_of(crate)
+        for turn in range(8):
+            said = check(crate)
+            with open(f"/tmp/mend-{crate}.log", "w") as f:
+                f.write(said)
+            if re.search(r"(?m)^logic=proved", said):
+                print(f"{crate}: proved")
+                break
+            n = mend(crate, said, names)
+            if not n:
+                errors = len(re.findall(r": error", said))
+                print(f"{crate}: {errors} errors left: /tmp/mend-{crate}.log")
+                break
+            print(f"{crate}: {n} mended")
+    return 0
+
+
+if __name__ == "__main__":
+    raise SystemExit(main(sys.argv[1:]))
