@@ -80,7 +80,7 @@ class Walk:
                         i += 1
                         continue
                     break
-                if nxt.startswith((" ", "\t")) or nxt.startswith("unfolding") or (name and re.match(re.escape(name) + r"(\s|$)", nxt)) or nxt.startswith("opaque"):
+                if nxt.startswith((" ", "\t", ")", "]", "}", "|")) or nxt.startswith("unfolding") or (name and re.match(re.escape(name) + r"(\s|$)", nxt)) or nxt.startswith("opaque"):
                     body.append(nxt)
                     i += 1
                     continue
@@ -184,12 +184,8 @@ class Walk:
                 text = "\n".join(rest)
                 p = re.match(re.escape(name) + r"((?:\s+[^\s=]+)*)\s+=", text)
                 params = p.group(1).split()
-                wanted = []
-                for v, ch in zip(variables, changed):
-                    if ch:
-                        wanted += [f"l.initial.{v}", f"l.{v}"]
-                    else:
-                        wanted.append(f"l.{v}")
+                wanted = [f"l.initial.{v}" if ch else f"l.{v}" for v, ch in zip(variables, changed)]
+                wanted += [f"l.{v}" for v, ch in zip(variables, changed) if ch]
                 if len(params) != len(wanted):
                     self.say(f"{kind}-{m.group(2)}: {len(params)} parameters for {len(wanted)}: {params} {wanted}")
                 table = dict(zip(params, wanted))
