@@ -69,7 +69,7 @@ def mend(crate, said, names):
     edits = {}
     blocks = re.split(r"\n(?=\./|fn |note:|help:|rt:)", said)
     for b in blocks:
-        m = re.match(r"(?:so far: )?\./(proofs/[^:]+\.antt):(\d+):(\d+): error: ", b)
+        m = re.match(r"\./(proofs/[^:]+\.antt):(\d+):(\d+): error: ", b)
         if not m:
             continue
         path, line, col = m.group(1), int(m.group(2)), int(m.group(3))
@@ -80,6 +80,12 @@ def mend(crate, said, names):
             step = down if down is not None else (-up if up is not None else None)
             if step:
                 edits.setdefault(path, []).append((line, col, "before", step))
+            continue
+        x = re.search(r"has no field `(\d+)`\s+its fields are ((?:`[\w'-]+`(?:, )?)+)", b)
+        if x:
+            fields = re.findall(r"`([^`]+)`", x.group(2))
+            if int(x.group(1)) < len(fields):
+                edits.setdefault(path, []).append((line, col, "field", (x.group(1), fields[int(x.group(1))])))
             continue
         x = re.search(r"expected type `record \{([^`]*)\}`", b) or re.search(r"the two types are `record \{([^`]*)\}`\s*\(expected\)", b)
         if not x:
@@ -109,6 +115,12 @@ def mend(crate, said, names):
                 if n < 0:
                     continue
                 text = text[:at] + m.group(1) + ".before" * n + text[at + m.end():]
+                done += 1
+            elif kind == "field":
+                m = re.compile(r"\." + what[0] + r"(?!\d)").search(text, at)
+                if not m or "\n" in text[at: m.start()]:
+                    continue
+                text = text[: m.start()] + "." + what[1] + text[m.end():]
                 done += 1
             else:
                 if text[at] != "(":
