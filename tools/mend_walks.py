@@ -33,7 +33,12 @@ def names_of(crate):
 def parents(names, crate, path):
     module = os.path.relpath(os.path.dirname(path), "proofs").replace("/", ".")
     it = names.get(f"Rattle-{crate}-proofs.{module}.Lts")
-    return {p[0]: p[1] for p in it["places"]} if it else {}
+    if not it:
+        return {}, {}
+    spelled = {}
+    for p, new in zip(it["places"], it["places_by_name"]):
+        spelled[p[0]] = spelled[new] = spelled["In-" + new] = spelled["In-" + p[0]] = p[0]
+    return {p[0]: p[1] for p in it["places"]}, spelled
 
 
 def depth(parent, place, target):
@@ -73,13 +78,27 @@ def mend(crate, said, names):
         if not m:
             continue
         path, line, col = m.group(1), int(m.group(2)), int(m.group(3))
-        x = re.search(r"one has `[\w.+'-]*\.Lts\.([\w+'-]+)`\s+\(expected\) and the other has `[\w.+'-]*\.Lts\.([\w+'-]+)` \(found\)", b)
+        x = re.search(r"one has `(?:[\w.+'-]*\.)?Lts\.(?:View\.)?([\w+'-]+)`\s+\(expected\)(?:, at the start,)? and the other has `(?:[\w.+'-]*\.)?Lts\.(?:View\.)?([\w+'-]+)`\s+\(found\)", b)
+        if not x:
+            x = re.search(r"expected type `([A-Z][\w+'-]*)`, but this has type `(?:[\w.+'-]*\.)?Lts\.(?:View\.)?([\w+'-]+) ", b)
+        if not x:
+            x = re.search(r"expected type `(?:[\w.+'-]*\.)?Lts\.(?:View\.)?([\w+'-]+) [^`]*`,?\s+but this has type `(?:[\w.+'-]*\.)?Lts\.(?:View\.)?([\w+'-]+) ", b)
         if x:
-            parent = parents(names, crate, path)
-            down, up = depth(parent, x.group(2), x.group(1)), depth(parent, x.group(1), x.group(2))
+            parent, spelled = parents(names, crate, path)
+            want, got = spelled.get(x.group(1), x.group(1)), spelled.get(x.group(2), x.group(2))
+            down, up = depth(parent, got, want), depth(parent, want, got)
             step = down if down is not None else (-up if up is not None else None)
             if step:
                 edits.setdefault(path, []).append((line, col, "before", step))
+            elif step == 0:
+                # a goal's own view of a place, and the place itself: the lemma takes the place itself
+                raw = re.search(r"but this has type `([^`]*)`", b)
+                if raw:
+                    edits.setdefault(path, []).append((line, col, "raw", (x.group(1), raw.group(1))))
+            continue
+        x = re.search(r"has no field `before`", b)
+        if x:
+            edits.setdefault(path, []).append((line, col, "less", None))
             continue
         x = re.search(r"has no field `(\d+)`\s+its fields are ((?:`[\w'-]+`(?:, )?)+)", b)
         if x:
@@ -116,6 +135,39 @@ def mend(crate, said, names):
                     continue
                 text = text[:at] + m.group(1) + ".before" * n + text[at + m.end():]
                 done += 1
+            elif kind == "less":
+                start = text.rfind("\n", 0, at) + 1
+                end = text.find("\n", at)
+                for m in re.finditer(r"[\w']+((?:\.before)+)", text[start:end]):
+                    if start + m.start() <= at <= start + m.end():
+                        cut = start + m.end() - len(".before")
+                        text = text[:cut] + text[cut + len(".before"):]
+                        done += 1
+                        break
+            elif kind == "raw":
+                new = what[0][3:] if what[0].startswith("In-") else what[0]
+                module = f"Rattle.{crate}.proofs." + os.path.relpath(os.path.dirname(path), "proofs").replace("/", ".")
+                own = "".join(w.capitalize() if w.islower() else w[:1].upper() + w[1:] for w in re.split(r"[-_+]", new))
+                if f"abbrev {own} : Type 0" in text:
+                    continue
+                raw = re.sub(re.escape(module) + r"\.", "", re.sub(r"\s+", " ", what[1]))
+                if "…" in raw:
+                    continue
+                head, sep, rest = text.partition("Goals as goal\n")
+                if not sep:
+                    continue
+                m = re.match(r"((?:use [^\n]*\n)*)", rest)
+                uses, body = m.group(1), rest[m.end():]
+                uses = re.sub(r"(\{|, )" + re.escape(new) + r"(?=,|\})", lambda k: k.group(1) if k.group(1) == "{" else "", uses)
+                uses = uses.replace("{, ", "{")
+                uses = re.sub(r"use [^\n]*\.\{\}\n", "", uses)
+                body = re.sub(r"(?<![\w.+'-])" + re.escape(new) + r"(?![\w.+'-])", own, body)
+                for mod in ("Lts", "Tie", "Reads"):
+                    if f"use {module}.{mod}\n" not in uses:
+                        uses += f"use {module}.{mod}\n"
+                text = head + sep + uses + f"\n-- the place itself\nabbrev {own} : Type 0\n{own} = {raw}\n" + body
+                done += 1
+                break
             elif kind == "field":
                 m = re.compile(r"\." + what[0] + r"(?!\d)").search(text, at)
                 if not m or "\n" in text[at: m.start()]:

@@ -126,6 +126,7 @@ class Walk:
 
         text = re.sub(r"(?<![\w.'-])([\w']+)((?:\.before)*)\.(?!before\b)([A-Za-z_][^\s(){}\[\];,.λ]*)", one, text)
         text = re.sub(r"\.type-inv\b", ".type_inv", text)
+        text = re.sub(r"\.pre\b", ".requires", text)
         return text
 
     def turn_ties(self, text):
@@ -244,7 +245,7 @@ class Walk:
             full = sig + "\n" + text
             base = set()
             mm = re.findall(r"\((\w+) : tie\.", sig)
-            if mm:
+            if mm or re.search(r"\btie\.", sig):
                 # the clause's first parameters
                 p = re.search(r"(?m)^" + re.escape(name) + r"((?:\s+[^\s=]+)*)\s+=", text)
                 base |= set(mm)
