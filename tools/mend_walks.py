@@ -35,10 +35,13 @@ def parents(names, crate, path):
     it = names.get(f"Rattle-{crate}-proofs.{module}.Lts")
     if not it:
         return {}, {}
-    spelled = {}
+    spelled, parent = {}, {p[0]: p[1] for p in it["places"]}
     for p, new in zip(it["places"], it["places_by_name"]):
-        spelled[p[0]] = spelled[new] = spelled["In-" + new] = spelled["In-" + p[0]] = p[0]
-    return {p[0]: p[1] for p in it["places"]}, spelled
+        spelled[p[0]] = spelled[new] = p[0]
+        # a goal's own view of a place is one step further in than the place
+        spelled["View.In-" + new] = spelled["View.In-" + p[0]] = "View." + p[0]
+        parent["View." + p[0]] = p[0]
+    return parent, spelled
 
 
 def depth(parent, place, target):
@@ -78,27 +81,33 @@ def mend(crate, said, names):
         if not m:
             continue
         path, line, col = m.group(1), int(m.group(2)), int(m.group(3))
-        x = re.search(r"one has `(?:[\w.+'-]*\.)?Lts\.(?:View\.)?([\w+'-]+)`\s+\(expected\)(?:, at the start,)? and the other has `(?:[\w.+'-]*\.)?Lts\.(?:View\.)?([\w+'-]+)`\s+\(found\)", b)
+        x = re.search(r"one has `(?:[\w.+'-]*\.)?Lts\.((?:View\.)?[\w+'-]+)`\s+\(expected\)(?:, at the start,)? and the other has `(?:[\w.+'-]*\.)?Lts\.((?:View\.)?[\w+'-]+)`\s+\(found\)", b)
         if not x:
-            x = re.search(r"expected type `([A-Z][\w+'-]*)`, but this has type `(?:[\w.+'-]*\.)?Lts\.(?:View\.)?([\w+'-]+) ", b)
+            x = re.search(r"expected type `([A-Z][\w+'-]*)`, but this has type `(?:[\w.+'-]*\.)?Lts\.((?:View\.)?[\w+'-]+) ", b)
         if not x:
-            x = re.search(r"expected type `(?:[\w.+'-]*\.)?Lts\.(?:View\.)?([\w+'-]+) [^`]*`,?\s+but this has type `(?:[\w.+'-]*\.)?Lts\.(?:View\.)?([\w+'-]+) ", b)
+            x = re.search(r"expected type `(?:[\w.+'-]*\.)?Lts\.((?:View\.)?[\w+'-]+) [^`]*`,?\s+but this has type `(?:[\w.+'-]*\.)?Lts\.((?:View\.)?[\w+'-]+) ", b)
         if x:
             parent, spelled = parents(names, crate, path)
             want, got = spelled.get(x.group(1), x.group(1)), spelled.get(x.group(2), x.group(2))
+            if want.startswith("View."):
+                # a goal's own view of a place, and the place itself: the lemma takes the place itself
+                raw = re.search(r"but this has type `([^`]*)`", b)
+                if raw and "Lts." in raw.group(1):
+                    text = re.sub(r"Lts\.(View\.)?[\w+'-]+", "Lts." + want[5:], raw.group(1), count=1)
+                    edits.setdefault(path, []).append((line, col, "raw", (x.group(1), text)))
+                continue
             down, up = depth(parent, got, want), depth(parent, want, got)
             step = down if down is not None else (-up if up is not None else None)
             if step:
                 edits.setdefault(path, []).append((line, col, "before", step))
-            elif step == 0:
-                # a goal's own view of a place, and the place itself: the lemma takes the place itself
-                raw = re.search(r"but this has type `([^`]*)`", b)
-                if raw:
-                    edits.setdefault(path, []).append((line, col, "raw", (x.group(1), raw.group(1))))
             continue
         x = re.search(r"has no field `before`", b)
         if x:
             edits.setdefault(path, []).append((line, col, "less", None))
+            continue
+        x = re.search(r"has no field `([\w+'-]+)` \(nearest: \.([\w+'-]+)\)", b)
+        if x:
+            edits.setdefault(path, []).append((line, col, "name", (x.group(1), x.group(2))))
             continue
         x = re.search(r"has no field `(\d+)`\s+its fields are ((?:`[\w'-]+`(?:, )?)+)", b)
         if x:
@@ -145,7 +154,7 @@ def mend(crate, said, names):
                         done += 1
                         break
             elif kind == "raw":
-                new = what[0][3:] if what[0].startswith("In-") else what[0]
+                new = what[0][len("View.In-"):] if what[0].startswith("View.In-") else what[0]
                 module = f"Rattle.{crate}.proofs." + os.path.relpath(os.path.dirname(path), "proofs").replace("/", ".")
                 own = "".join(w.capitalize() if w.islower() else w[:1].upper() + w[1:] for w in re.split(r"[-_+]", new))
                 if f"abbrev {own} : Type 0" in text:
@@ -168,6 +177,13 @@ def mend(crate, said, names):
                 text = head + sep + uses + f"\n-- the place itself\nabbrev {own} : Type 0\n{own} = {raw}\n" + body
                 done += 1
                 break
+            elif kind == "name":
+                start = text.rfind("\n", 0, at) + 1
+                m = re.compile(r"\." + re.escape(what[0]) + r"(?![\w+'-])").search(text, start)
+                if not m or "\n" in text[start: m.start()]:
+                    continue
+                text = text[: m.start()] + "." + what[1] + text[m.end():]
+                done += 1
             elif kind == "field":
                 m = re.compile(r"\." + what[0] + r"(?!\d)").search(text, at)
                 if not m or "\n" in text[at: m.start()]:
@@ -195,7 +211,7 @@ def main(argv):
         return 2
     for crate in argv:
         names = names_of(crate)
-        for turn in range(8):
+        for turn in range(16):
             said = check(crate)
             with open(f"/tmp/mend-{crate}.log", "w") as f:
                 f.write(said)

@@ -126,7 +126,9 @@ class Walk:
 
         text = re.sub(r"(?<![\w.'-])([\w']+)((?:\.before)*)\.(?!before\b)([A-Za-z_][^\s(){}\[\];,.λ]*)", one, text)
         text = re.sub(r"\.type-inv\b", ".type_inv", text)
+        text = re.sub(r"\bnot-(?:true|false) _ ([\w.'+-]+\.(?:true|false))(?![\w.])", r"\1", text)
         text = re.sub(r"\.pre\b", ".requires", text)
+        text = re.sub(r"\.inv\b", ".invariant", text)
         return text
 
     def turn_ties(self, text):
