@@ -1,24 +1,9 @@
-use Rattle.lists.proofs.Tables.{begun, turned_front, ended}
-use Rattle.frame_hex.proofs.take_bytes.Goals as goal
-
 -- Each turn writes one byte behind those that stand.
 use borrow.Author.Rules.{rules}
-
-use Prim.Native.Nat.{◌≤◌, ◌-◌, ◌/◌}
-
-use mathlib.Core.Path.{◌≡◌}
-
-use lib.ListN.{length, length-set}
-
-use Rattle.lists.specs.Written.{Wrote}
-
-use Rattle.lists.specs.Written.{table}
-
+use lib.ListN.{length-set}
+use Rattle.lists.proofs.Tables.{begun, turned_front, ended}
 use Rattle.frame_hex.specs.Hex.{byte_of}
-
-use Rattle.frame_hex.proofs.take_bytes.Statement.{statement}
-
-use Rattle.frame_hex.proofs.take_bytes.Tie as tie
+use Rattle.frame_hex.proofs.take_bytes.Goals as goal
 
 pub loop-i-init : goal.loop-i-init
 loop-i-init c = (search rules, search rules, search rules, begun _ _ _)

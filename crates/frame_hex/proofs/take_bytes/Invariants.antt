@@ -1,3 +1,8 @@
+use Prim.Native.Nat.{◌≤◌, ◌-◌, ◌/◌}
+use mathlib.Core.Path.{◌≡◌}
+use lib.ListN.{length}
+use Rattle.lists.specs.Written.{Wrote, table}
+use Rattle.frame_hex.specs.Hex.{byte_of}
 use Rattle.frame_hex.proofs.take_bytes.Given as goal
 
 abbrev pub invariant-loop-i : goal.invariant-loop-i

@@ -1,6 +1,6 @@
 -- Two words, one behind the other.
 use mathlib.Core.Path.{refl, ap}
-use mathlib.Core.List.{◌∷◌}
+use mathlib.Core.List.{[], ◌∷◌}
 use Rattle.lists.proofs.Written.{then, wrote_same}
 use Rattle.pools_rows.proofs.put_cache.Goals as goal
 
