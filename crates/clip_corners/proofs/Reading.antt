@@ -7,6 +7,7 @@ use native.Mathlib.Omega.{arith}
 use native.Mathlib.Nat.{add-zero}
 use lib.ListN.{length, get_or}
 use lib.Ieee.{Float}
+use mathlib.Core.Bool.{Bool, cond}
 use borrow.Author.Tests.{lt-ltb}
 use Rattle.manifold.specs.declared.ClipVertex.{ClipVertex}
 use Rattle.clip_corners.specs.Places.{Roomy, corner_in, corners_in, numbers_with, tags_with, laid, Laid}
@@ -45,7 +46,14 @@ reads_back n t p k (v ∷ vs) room low e =
     let rest : corners_in (laid numbers_with n1 p (k + 1) vs) (laid tags_with t1 p (k + 1) vs) (p + (k + 1)) (length vs) ≡ vs =
     reads_back n1 t1 p (k + 1) vs (record { numbers_room = a; tags_room = b }) low (omega arith) in
     let z : p + k + 1 ≡ p + (k + 1) = omega arith in
-    rw (lt-ltb k 64 (omega arith), here, z, rest)
+    let fits = lt-ltb k 64 (omega arith) in
+    let numbers_on : laid numbers_with n p k (v ∷ vs) ≡ laid numbers_with n1 p (k + 1) vs =
+    ap (λ (b : Bool). laid numbers_with (cond b n1 n) p (k + 1) vs) fits in
+    let tags_on : laid tags_with t p k (v ∷ vs) ≡ laid tags_with t1 p (k + 1) vs = ap (λ (b : Bool). laid tags_with (cond b t1 t) p (k + 1) vs) fits in
+    ap (λ (a : List Float). corners_in a (laid tags_with t p k (v ∷ vs)) (p + k) (suc (length vs))) numbers_on
+    ∙ (ap (λ (a : List ℕ). corners_in (laid numbers_with n1 p (k + 1) vs) a (p + k) (suc (length vs))) tags_on
+    ∙ (ap (λ (x : ClipVertex). x ∷ corners_in (laid numbers_with n1 p (k + 1) vs) (laid tags_with t1 p (k + 1) vs) (p + k + 1) (length vs)) here
+    ∙ (ap (λ (q : ℕ). v ∷ corners_in (laid numbers_with n1 p (k + 1) vs) (laid tags_with t1 p (k + 1) vs) q (length vs)) z ∙ ap (λ l. v ∷ l) rest)))
 
 module _ (n : List Float) (t : List ℕ) (p : ℕ) (l : List ClipVertex) (n' : List Float) (t' : List ℕ) (r : ℕ) (room : Roomy n t) (low : p ≤ 64)
     (a : Laid n t p 0 l n' t' r) where
