@@ -262,6 +262,15 @@ class Walk:
             if "tie." in text2:
                 text2 = self.turn_ties(text2)
             answers.append((comments, sig2, text2))
+        # a helper that only leads back to the call's start: what is known there is known further in as well
+        for comments, sig, text in list(answers):
+            m = re.match(r"abbrev (\w+) : [^\n]* → Start$", sig or "")
+            if m and re.match(re.escape(m.group(1)) + r" (\w+) = \1(\.before)+$", text.strip()):
+                name = m.group(1)
+                flat = re.compile(r"\(%s (\w+)(?:\.before)*\)\." % re.escape(name))
+                turned = [(c, flat.sub(r"\1.", s) if s else s, flat.sub(r"\1.", t)) for c, s, t in answers if s != sig]
+                if not any(re.search(r"(?<![\w.])%s(?![\w-])" % re.escape(name), (s or "") + t) for _, s, t in turned):
+                    answers = turned
         # uses
         used_all = "\n".join(uses)
         items = re.findall(r"(pub )?use ((?:[\w'#-]+\.)*[\w'#-]+)(?:\.\{([^}]*)\})?( as \S+)?", used_all)

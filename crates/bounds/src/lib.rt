@@ -1,1 +1,3 @@
+#![tactic(auto)]
+
 // Laws only, no code: floats that stay finite, unit normals, the seven low bits.

@@ -6,7 +6,7 @@ use native.Mathlib.Omega.{arith}
 use native.Mathlib.Nat.{not-suc-le-zero, mul-le-mul_left}
 use native.Mathlib.Numerals.{add-one}
 use borrow.Author.Count.{below_more}
-use lib.ListN.{length, set, take, drop, get_or, length-take}
+use lib.ListN.{length, set, take, drop, get_or}
 use lib.Seq.{sets, sets-eq, length-sets, length-take-le, drop-set-add, take-set-le, drop-set-lt, drop_at, take_at, get_or-drop, drop-drop}
 use Rattle.lists.specs.Written.{Wrote}
 use Rattle.lists.specs.Parts.{part_of, Parts, sum_of}

@@ -1,4 +1,6 @@
 // One value written into a slice that is lent. Runs of such writes, tables and parts of lists are in specs/.
+#![tactic(auto)]
+
 ghost use Rattle.std.specs.Prelude.{◌+◌, ◌≤◌, [], ◌∷◌, length};
 ghost use Rattle.lists.specs.Written.{Wrote};
 

@@ -2,6 +2,8 @@
 //
 // A guess in fixed point comes first, and nothing is proved of how near it is. `nearest` tests it against the
 // radicand and mends it where it is off, so the result is right whatever the guess.
+#![tactic(auto)]
+
 ghost use Rattle.std.specs.Prelude.{T, ◌≡◌, ◌+◌, ◌*◌, ◌^◌, ◌≤◌, ◌<◌};
 ghost use Rattle.root.specs.Root.{units, root_bits, is_root, root_of};
 

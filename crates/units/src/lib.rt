@@ -1,4 +1,6 @@
 // The length unit that a hull carries, and every limit that goes by it, formed as constants.rs does: a length of document 01 times the units per metre.
+#![tactic(auto)]
+
 ghost use Rattle.std.specs.Prelude.{◌≡◌};
 ghost use Rattle.units.specs.Units.{known_unit, units_per_meter};
 ghost use Rattle.units.specs.Limits.{slop, speculative, huge, coordinate_limit, offset_limit, edge_limit};

@@ -1,5 +1,6 @@
 // Vectors, planes and boxes of binary32 numbers, and the helpers on them that the Rust text leans on and does not hold.
 // Each helper is one reading, fixed in specs/; every operation is rounded once, in the order written there, and nothing is fused.
+#![tactic(auto)]
 
 pub mod arithmetic;
 pub mod awaited;

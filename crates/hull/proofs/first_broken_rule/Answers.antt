@@ -5,23 +5,24 @@ use Rattle.hull_links.specs.Rules.{h1, broken_links}
 use Rattle.hull_links.proofs.Facts.{links_fit, numbers_fit}
 use Rattle.hull.proofs.Answer.{sizes_broken, in_range, ringed, links_broken, numbers_broken, shell_broken, nothing_broken}
 use Rattle.hull.proofs.first_broken_rule.Goals as goal
-use Rattle.hull.proofs.first_broken_rule.Goals.{Else-rule-ne0, Start}
+use Rattle.hull.proofs.first_broken_rule.Goals.{Start}
 use Rattle.hull.proofs.first_broken_rule.Lts
 use Rattle.hull.proofs.first_broken_rule.Tie
 use Rattle.hull.proofs.first_broken_rule.Reads
+
+-- the place itself
+abbrev ElseRuleNe0 : Type 0
+ElseRuleNe0 = Lts.Else2 Tie.the-claims Reads.Pre Reads.Post
 
 -- the place itself
 abbrev ElseNotSizesRight : Type 0
 ElseNotSizesRight = Lts.Else1 Tie.the-claims Reads.Pre Reads.Post
 
 -- ---- what holds behind each test that passed
-abbrev entry : ElseNotSizesRight → Start
-entry c = c.before.before.before.before
-
-sized : (c : ElseNotSizesRight) → h1 (entry c).args.size (entry c).args.numbers.now (entry c).args.links.now ≡ true
+sized : (c : ElseNotSizesRight) → h1 c.args.size c.args.numbers.now c.args.links.now ≡ true
 sized c = sym c.sizes_right.ensures ∙ c.if-not-sizes_right.false
 
-linked : (c : Else-rule-ne0) → broken_links (entry c.before.before.before).args.size (entry c.before.before.before).args.links.now ≡ 0
+linked : (c : ElseRuleNe0) → broken_links c.args.size c.args.links.now ≡ 0
 linked c = sym c.broken_link_rule-rule.ensures ∙ c.if-rule-ne0.false
 
 pub returns-then-not-sizes_right : goal.returns-then-not-sizes_right
@@ -36,24 +37,24 @@ returns-then-rule-ne0 c = let q = c.broken_link_rule-rule.ensures in
 
 pub numbers_right-requires : goal.numbers_right-requires
 numbers_right-requires c = let q = sized c.before.before.before in
-    (numbers_fit _ _ _ q, links_fit _ _ _ q, in_range _ _ (linked c))
+    (numbers_fit _ _ _ q, links_fit _ _ _ q, in_range _ _ (linked c.before))
 
 pub returns-then-not-numbers_right : goal.returns-then-not-numbers_right
 returns-then-not-numbers_right c = let e = c.before.before in
-    numbers_broken _ _ _ (sized e.before.before.before) (linked e) (sym c.numbers_right.ensures ∙ c.if-not-numbers_right.true)
+    numbers_broken _ _ _ (sized e.before.before.before) (linked e.before) (sym c.numbers_right.ensures ∙ c.if-not-numbers_right.true)
 
 pub one_shell-requires : goal.one_shell-requires
 one_shell-requires c = let e = c.before.before in
-    ringed _ _ (links_fit _ _ _ (sized e.before.before.before)) (linked e)
+    ringed _ _ (links_fit _ _ _ (sized e.before.before.before)) (linked e.before)
 
 pub returns-then-not-one_shell : goal.returns-then-not-one_shell
 returns-then-not-one_shell c = let n = c.before.before in
     let e = n.before.before in
-    shell_broken _ _ _ (sized e.before.before.before) (linked e) (sym n.numbers_right.ensures ∙ n.if-not-numbers_right.false)
+    shell_broken _ _ _ (sized e.before.before.before) (linked e.before) (sym n.numbers_right.ensures ∙ n.if-not-numbers_right.false)
     (sym c.one_shell.ensures ∙ c.if-not-one_shell.true)
 
 pub returns : goal.returns
 returns c = let n = c.before.before in
     let e = n.before.before in
-    nothing_broken _ _ _ (sized e.before.before.before) (linked e) (sym n.numbers_right.ensures ∙ n.if-not-numbers_right.false)
+    nothing_broken _ _ _ (sized e.before.before.before) (linked e.before) (sym n.numbers_right.ensures ∙ n.if-not-numbers_right.false)
     (sym c.one_shell.ensures ∙ c.if-not-one_shell.false)

@@ -1,6 +1,6 @@
 -- `root::nearest` meets its contract, whatever the guess. After the first loop g is not too small, and the second keeps that until g is not too
 -- large. Assumes nothing.
-use Prim.Native.Nat.{ℕ, ◌≤◌, ◌<◌, ◌-◌, ◌*◌}
+use Prim.Native.Nat.{ℕ, ◌≤◌, ◌<◌, ◌*◌}
 use native.Mathlib.Omega.{arith}
 use Rattle.root.proofs.Squares.{product, positive, one_less, small}
 use Rattle.root.proofs.nearest.Goals as goal

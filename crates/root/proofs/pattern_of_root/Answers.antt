@@ -1,6 +1,5 @@
 -- `root::pattern_of_root` meets its contract: each arm leaves m and a as `Norm` has them, and `rooted` takes it from there. Assumes nothing.
 use mathlib.Core.Path.{subst}
-use mathlib.Core.Logic.{⊎_elim}
 use Prim.Native.Nat.{ℕ, ◌≤◌, ◌<◌}
 use native.Mathlib.Omega.{arith}
 use lib.Count.{count_leading_zeros}
@@ -20,9 +19,9 @@ norm : (c : Joined-b-lt8388608) → Norm c.args.b c.if-b-lt8388608.m c.if-b-lt83
 norm c =
     let b = c.args.b in
     elim c.if-b-lt8388608.branch [
-      then-b-lt8388608 w ↦ subnormal b _ c.if-b-lt8388608.m c.if-b-lt8388608.a (omega arith) w.if-b-lt8388608.true
+      | then-b-lt8388608 w ↦ subnormal b _ c.if-b-lt8388608.m c.if-b-lt8388608.a (omega arith) w.if-b-lt8388608.true
           (omega (arith, lead b (omega arith) w.if-b-lt8388608.true)) w.m-is (omega (arith, w.a-is))
-    | else-b-lt8388608 w ↦ normal b c.if-b-lt8388608.m c.if-b-lt8388608.a w.if-b-lt8388608.false (omega arith) (omega (arith, w.m-is))
+      | else-b-lt8388608 w ↦ normal b c.if-b-lt8388608.m c.if-b-lt8388608.a w.if-b-lt8388608.false (omega arith) (omega (arith, w.m-is))
           (omega (arith, w.a-is))
     ]
 

@@ -1,5 +1,4 @@
 -- The loop's invariant: `best` is the best of the first i vertices, by the definition.
-use Prim.Native.Nat.{◌-◌}
 use mathlib.Core.Path.{◌≡◌, ap, ◌∙◌}
 use native.Mathlib.Omega.{arith}
 use borrow.Author.Rules.{rules}

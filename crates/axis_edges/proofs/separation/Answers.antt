@@ -1,0 +1,7 @@
+-- `separation`: each call answers its own definition, and together they are this one.
+use Rattle.axis_edges.specs.Edges.{edge_separation_of}
+use Rattle.axis_edges.proofs.separation.Goals as goal
+
+pub returns : goal.returns
+unfolding edge_separation_of
+returns c = simp (c.dot_right.ensures, c.sum.ensures)

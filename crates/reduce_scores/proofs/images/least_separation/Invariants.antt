@@ -1,0 +1,13 @@
+-- The loop's invariant: `least` is the least of the first i separations, by the definition.
+use Prim.Native.Nat.{◌-◌, ◌≤◌}
+use mathlib.Core.Path.{◌≡◌}
+use Rattle.clip_corners.specs.Places.{corners_in}
+use Rattle.reduce_scores.specs.Images.{largest}
+use Rattle.reduce_scores.proofs.Over.{over}
+use Rattle.reduce_scores.proofs.images.least_separation.Given as goal
+
+abbrev pub invariant-loop-i : goal.invariant-loop-i
+invariant-loop-i l = (l.i ≤ l.n) × (l.least ≡ over least_turn largest (corners_in l.places l.tags l.from l.n) l.i)
+
+abbrev pub decreases-loop-i : goal.decreases-loop-i
+decreases-loop-i l = l.n - l.i
