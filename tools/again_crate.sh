@@ -5,7 +5,7 @@ cd "$(dirname "$0")/.." || exit 1
 commit=$1
 shift
 for crate in "$@"; do
-    find "crates/$crate/proofs" \( -name Answers.antt -o -name Invariants.antt \) -delete
+    find "crates/$crate/proofs" -mindepth 2 \( -name Answers.antt -o -name Invariants.antt \) -delete
     for walk in $(git ls-tree -r --name-only "$commit" "crates/$crate/proofs" | grep '/Proof.antt$'); do
         git show "$commit:$walk" >"$walk"
     done

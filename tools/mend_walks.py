@@ -105,6 +105,25 @@ def mend(crate, said, names):
         if x:
             edits.setdefault(path, []).append((line, col, "less", None))
             continue
+        x = re.search(r"expected type `[^`]*`, but this has type `(?:mathlib\.Core\.Bool\.)?not [^`]* ≡ (?:mathlib\.Core\.Bool\.)?(true|false)`", b)
+        if x:
+            edits.setdefault(path, []).append((line, col, "wrap", "not-" + x.group(1)))
+            continue
+        if "(mathlib.Core.Bool.not" in b:
+            edits.setdefault(path, []).append((line, col, "not", None))
+            continue
+        x = re.search(r"has no field `(keys\d*)`", b)
+        if x and "`is`" in b:
+            edits.setdefault(path, []).append((line, col, "name", (x.group(1), "is")))
+            continue
+        x = re.search(r"A record further in has one: write `\.([^`]+)` in place of `\.([^`]+)`", b)
+        if x:
+            edits.setdefault(path, []).append((line, col, "name", (x.group(2), x.group(1))))
+            continue
+        x = re.search(r"has no field `([\w+'-]+)`", b)
+        if x and "-" in x.group(1) and f"`{x.group(1).replace('-', '_')}`" in b.split("has no field", 1)[1].split("\n", 1)[-1]:
+            edits.setdefault(path, []).append((line, col, "names", (x.group(1), x.group(1).replace("-", "_"))))
+            continue
         x = re.search(r"has no field `([\w+'-]+)` \(nearest: \.([\w+'-]+)\)", b)
         if x:
             edits.setdefault(path, []).append((line, col, "name", (x.group(1), x.group(2))))
@@ -177,6 +196,30 @@ def mend(crate, said, names):
                 text = head + sep + uses + f"\n-- the place itself\nabbrev {own} : Type 0\n{own} = {raw}\n" + body
                 done += 1
                 break
+            elif kind == "wrap":
+                m = re.match(r"[\w.'+-]+", text[at:])
+                if not m:
+                    continue
+                bare = text[at - 1] == "(" and text[at + m.end()] == ")"
+                new = f"{what} _ {m.group(0)}" if bare else f"({what} _ {m.group(0)})"
+                text = text[:at] + new + text[at + m.end():]
+                uses = re.search(r"use borrow\.Author\.Tests\.\{([^}]*)\}", text)
+                if not uses:
+                    k = text.index("\nuse ") + 1
+                    text = text[:k] + f"use borrow.Author.Tests.{{{what}}}\n" + text[k:]
+                elif what not in [u.strip() for u in uses.group(1).split(",")]:
+                    text = text[: uses.start(1)] + f"{what}, " + text[uses.start(1):]
+                done += 1
+                break
+            elif kind == "not":
+                m = re.search(r"\bnot-(true|false) _\s*$", text[:at])
+                if m:
+                    text = text[: m.start()] + text[at:]
+                    done += 1
+            elif kind == "names":
+                new = re.sub(r"\." + re.escape(what[0]) + r"(?![\w+'-])", "." + what[1], text)
+                done += new != text
+                text = new
             elif kind == "name":
                 start = text.rfind("\n", 0, at) + 1
                 m = re.compile(r"\." + re.escape(what[0]) + r"(?![\w+'-])").search(text, start)
@@ -211,7 +254,7 @@ def main(argv):
         return 2
     for crate in argv:
         names = names_of(crate)
-        for turn in range(16):
+        for turn in range(40):
             said = check(crate)
             with open(f"/tmp/mend-{crate}.log", "w") as f:
                 f.write(said)

@@ -126,9 +126,29 @@ class Walk:
 
         text = re.sub(r"(?<![\w.'-])([\w']+)((?:\.before)*)\.(?!before\b)([A-Za-z_][^\s(){}\[\];,.λ]*)", one, text)
         text = re.sub(r"\.type-inv\b", ".type_inv", text)
+        text = re.sub(r"\.args\.([a-z0-9]+(?:-[a-z0-9]+)+)(?![\w-])", lambda m: ".args." + m.group(1).replace("-", "_"), text)
         text = re.sub(r"\bnot-(?:true|false) _ ([\w.'+-]+\.(?:true|false))(?![\w.])", r"\1", text)
         text = re.sub(r"\.pre\b", ".requires", text)
         text = re.sub(r"\.inv\b", ".invariant", text)
+        return text
+
+    def flatten(self, text, bases):
+        """Drops a name for an earlier place that only leads to what was known there: a later place knows it as well."""
+        bases = set(bases)
+        again = True
+        while again:
+            again = False
+            for m in re.finditer(r"let (\w+) = (\w+)((?:\.before)+) in\s*", text):
+                name, base = m.group(1), m.group(2)
+                if base not in bases or len(re.findall(r"let %s =" % name, text)) > 1 or re.search(r"λ[^.]*\b%s\b[^.]*\." % name, text):
+                    continue
+                rest = text[: m.start()] + text[m.end():]
+                if re.search(r"(?<![\w.'-])%s(?:\.before)*(?![\w.'-])" % name, rest):
+                    bases.add(name)
+                    continue
+                text = re.sub(r"(?<![\w.'-])%s(?:\.before)*\.(?!before\b)" % name, base + ".", rest)
+                again = True
+                break
         return text
 
     def turn_ties(self, text):
@@ -167,9 +187,16 @@ class Walk:
             i += 1
         decls = self.chunks(lines[i:])
         self.given = [n for _, n, b in decls if n and re.search(r" : tie\.(invariant|decreases)-", b[0])]
+        aliases = [n for _, n, b in decls if n and len(b) > 1 and re.match(re.escape(n) + r" = tie\.[A-Z]", b[1])]
         invariants, answers, helpers = [], [], []
         seen = set()
         for comments, name, body in decls:
+            if name is None and body[0].startswith("module _"):
+                text = "\n".join(body)
+                base = set(re.findall(r"\((\w+) : ", text.split(" where")[0]))
+                text = self.turn_ties(self.turn_paths(text, base))
+                answers.append((comments, None, text))
+                continue
             if name is None:
                 self.say(f"not read: {body[0][:80]}")
                 answers.append((comments, None, "\n".join(body)))
@@ -240,14 +267,22 @@ class Walk:
                 term = self.turn_paths(term, base)
                 if "tie." in term:
                     term = self.turn_ties(term)
+                term = self.flatten(term, base)
                 answers.append((comments, f"pub {new} : goal.{new}", f"{unfolding}{new} {' '.join(params)} ={term}"))
                 continue
             # a helper
             text = "\n".join(rest)
+            m = re.match(r"(\S+) = tie\.([A-Z][\w-]*)", text)
+            if m and self.places.get(norm(m.group(2))) == m.group(1):
+                # another name for a place, which the place has by itself now
+                self.cited.add(m.group(1))
+                continue
             full = sig + "\n" + text
             base = set()
             mm = re.findall(r"\((\w+) : tie\.", sig)
-            if mm or re.search(r"\btie\.", sig):
+            for al in aliases:
+                mm += re.findall(r"\((\w+) : %s\)" % re.escape(al), sig)
+            if mm or re.search(r"\btie\.", sig) or any(re.search(r"(?<![\w.])%s →" % re.escape(al), sig) for al in aliases):
                 # the clause's first parameters
                 p = re.search(r"(?m)^" + re.escape(name) + r"((?:\s+[^\s=]+)*)\s+=", text)
                 base |= set(mm)
@@ -261,6 +296,7 @@ class Walk:
             text2 = self.turn_paths(text, base)
             if "tie." in text2:
                 text2 = self.turn_ties(text2)
+            text2 = self.flatten(text2, base)
             answers.append((comments, sig2, text2))
         # a helper that only leads back to the call's start: what is known there is known further in as well
         for comments, sig, text in list(answers):
@@ -294,7 +330,10 @@ class Walk:
                         continue
                     word = it.split(" as ")[-1].strip()
                     parts = [p for p in word.split("◌") if p]
-                    if "◌" in word:
+                    if word == "[]":
+                        if "[]" in text:
+                            keep.append(it)
+                    elif "◌" in word:
                         if all(p in tokens or p in text for p in parts):
                             keep.append(it)
                     elif word in tokens:
@@ -307,10 +346,26 @@ class Walk:
         q = f"Rattle.{self.crate}.proofs.{self.module}"
         if invariants:
             text = "\n\n".join("\n".join(c + [d]) for c, d in invariants)
-            heads = [re.match(r"(?:(?:pub|abbrev|unfoldable) )*(\S+) :", s) for _, s, _ in answers if s]
-            need = [m.group(1) for m in heads if m and m.group(1) in set(TOKEN.findall(text))]
-            if need:
-                self.say(f"an invariant uses {need}")
+            # what an invariant names of this file stands beside it
+            shared = []
+            while True:
+                found = None
+                for k, (c, sg, t) in enumerate(answers):
+                    m = re.match(r"((?:(?:pub|abbrev|unfoldable) )*)(\S+) :", sg or "")
+                    if m and re.search(r"(?<![\w.'-])%s(?![\w'-])" % re.escape(m.group(2)), text) and "goal." not in sg:
+                        found = k, m
+                        break
+                if found is None:
+                    break
+                k, m = found
+                c, sg, t = answers.pop(k)
+                words = m.group(1)
+                if "pub" not in words:
+                    sg = words + "pub " + sg[len(words):]
+                shared.append(m.group(2))
+                text = "\n".join(c + [sg, t]) + "\n\n" + text
+            if shared:
+                self.shared = shared
             made["Invariants.antt"] = "\n".join(head + imports(text, [f"use {q}.Given as goal"])) + "\n\n" + text + "\n"
         # helpers that nothing uses
         while True:
@@ -329,6 +384,9 @@ class Walk:
             text = "\n\n".join("\n".join(c + ([s] if s else []) + [t]) for c, s, t in answers)
             cited = sorted(n for n in self.cited if n in set(TOKEN.findall(text)))
             more = [f"use {q}.Goals.{{{', '.join(cited)}}}"] if cited else []
+            taken = [n for n in getattr(self, "shared", []) if n in set(TOKEN.findall(text))]
+            if taken:
+                more.append(f"use {q}.Invariants.{{{', '.join(taken)}}}")
             made["Answers.antt"] = "\n".join(head + imports(text, [f"use {q}.Goals as goal"] + more)) + "\n\n" + text + "\n"
         return made
 

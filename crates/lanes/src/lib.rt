@@ -1,5 +1,7 @@
 // Four lanes of binary32 numbers: a vertex number embedded in the low seven bits of each, the least of lanes, and the number that the least carries.
 // The part of simd_scalar.rs that works on bits and order; sums and products of lanes are plain `f32` expressions and need no helper.
+#![tactic(auto)]
+
 ghost use Rattle.std.specs.Prelude.{◌≡◌, ◌+◌, ◌<◌, T};
 ghost use Rattle.std.specs.Float.Ieee.Scale.{finite};
 ghost use Rattle.bounds.specs.LowBits.{embed_of};

@@ -5,4 +5,4 @@ use Rattle.axis_edges.proofs.axis.Goals as goal
 pub returns : goal.returns
 unfolding axis_across_of
 returns c = let s = c.before.before.before in
-    simp (s.root-inv.ensures.1, s.dot_right.ensures, s.between-n.ensures)
+    simp (s.root-inv.ensures.worked, s.dot_right.ensures, s.between-n.ensures)

@@ -1,0 +1,12 @@
+-- The loop keeps `Fanning`: the flattest so far and the half-edges that are left make the flattest of all.
+use lib.ListN.{length}
+use Rattle.hull_links.specs.Links.{turn}
+use Rattle.hull_links.proofs.Along.{rest}
+use Rattle.clip_incident.proofs.Fans.{Fanning}
+use Rattle.clip_incident.proofs.flattest_edge.Given as goal
+
+abbrev pub invariant-loop-e : goal.invariant-loop-e
+invariant-loop-e l = Fanning l.size l.numbers l.links l.normal l.origin l.start l.initial.best l.best l.e
+
+abbrev pub decreases-loop-e : goal.decreases-loop-e
+decreases-loop-e l = length (rest (turn l.size l.links) l.size.half_edges l.start l.e)
