@@ -1,6 +1,5 @@
 -- Each turn writes one hull's rule behind those that stand.
 use borrow.Author.Rules.{rules}
-use Prim.Native.Nat.{◌-◌}
 use mathlib.Core.Path.{ap, ◌∙◌}
 use lib.ListN.{length-set}
 use Rattle.lists.proofs.Tables.{begun, turned_front, ended}
