@@ -17,7 +17,7 @@ import tempfile
 
 def check(crate):
     r = subprocess.run(["rt", "check"], cwd=os.path.join("crates", crate), capture_output=True, text=True)
-    return r.stdout + r.stderr
+    return r.stdout + r.stderr, r.returncode == 0
 
 
 def names_of(crate):
@@ -88,6 +88,8 @@ def mend(crate, said, names):
             x = re.search(r"expected type `(?:[\w.+'-]*\.)?Lts\.((?:View\.)?[\w+'-]+) [^`]*`,?\s+but this has type `(?:[\w.+'-]*\.)?Lts\.((?:View\.)?[\w+'-]+) ", b)
         if x:
             parent, spelled = parents(names, crate, path)
+            with open(os.path.join("crates", crate, path), encoding="utf-8") as f:
+                spelled.update(dict(re.findall(r"(?m)^abbrev (\w+) : Type 0\n\1 = Lts\.([\w+'-]+)", f.read())))
             want, got = spelled.get(x.group(1), x.group(1)), spelled.get(x.group(2), x.group(2))
             if want.startswith("View."):
                 # a goal's own view of a place, and the place itself: the lemma takes the place itself
@@ -116,6 +118,10 @@ def mend(crate, said, names):
         if x and "`is`" in b:
             edits.setdefault(path, []).append((line, col, "name", (x.group(1), "is")))
             continue
+        x = re.search(r"has no field `(taken|left)` — the fields that can be named here are `(true|false)`", b)
+        if x:
+            edits.setdefault(path, []).append((line, col, "name", (x.group(1), x.group(2))))
+            continue
         x = re.search(r"A record further in has one: write `\.([^`]+)` in place of `\.([^`]+)`", b)
         if x:
             edits.setdefault(path, []).append((line, col, "name", (x.group(2), x.group(1))))
@@ -124,6 +130,16 @@ def mend(crate, said, names):
         if x and "-" in x.group(1) and f"`{x.group(1).replace('-', '_')}`" in b.split("has no field", 1)[1].split("\n", 1)[-1]:
             edits.setdefault(path, []).append((line, col, "names", (x.group(1), x.group(1).replace("-", "_"))))
             continue
+        x = re.search(r"has no field `([\w+'-]+)`", b)
+        if x:
+            module = os.path.relpath(os.path.dirname(path), "proofs").replace("/", ".")
+            it = names.get(f"Rattle-{crate}-proofs.{module}.Lts")
+            squeeze = lambda n: re.sub(r"[-_]+", "_", n).lower()
+            steps = {squeeze(p[2][0]): p[2][1] for p in it["places"] if p[2] and p[2][0]} if it else {}
+            new = steps.get(squeeze(x.group(1)))
+            if new and new != x.group(1) and f"`{new}`" in b:
+                edits.setdefault(path, []).append((line, col, "name", (x.group(1), new)))
+                continue
         x = re.search(r"has no field `([\w+'-]+)` \(nearest: \.([\w+'-]+)\)", b)
         if x:
             edits.setdefault(path, []).append((line, col, "name", (x.group(1), x.group(2))))
@@ -150,6 +166,8 @@ def mend(crate, said, names):
     done = 0
     for path, its in edits.items():
         full = os.path.join("crates", crate, path)
+        if not os.path.exists(full):
+            continue
         with open(full, encoding="utf-8") as f:
             text = f.read()
         for line, col, kind, what in sorted(its, key=lambda e: (-e[0], -e[1])):
@@ -255,10 +273,10 @@ def main(argv):
     for crate in argv:
         names = names_of(crate)
         for turn in range(40):
-            said = check(crate)
+            said, good = check(crate)
             with open(f"/tmp/mend-{crate}.log", "w") as f:
                 f.write(said)
-            if re.search(r"(?m)^logic=proved", said):
+            if good:
                 print(f"{crate}: proved")
                 break
             n = mend(crate, said, names)

@@ -5,20 +5,16 @@ use Rattle.clip_cut.proofs.Halves.{half_most, halves, left_out, gone_over}
 use Rattle.clip_cut.proofs.cut_side.Goals as goal
 
 pub keeps_all-requires : goal.keeps_all-requires
-keeps_all-requires c = let s = c.before.before.before in
-    (s.requires.0.numbers_room, half_most _ s.requires.1, s.requires.3)
+keeps_all-requires c = (c.requires.0.numbers_room, half_most _ c.requires.1, c.requires.3)
 
 pub returns-then-keeps_all : goal.returns-then-keeps_all
-returns-then-keeps_all c = let s = c.before.before.before.before.before in
-    left_out _ _ _ _ _ _ _ s.requires.0 s.requires.1 (sym (c.keeps_all.ensures _) ∙ c.if-keeps_all.true)
+returns-then-keeps_all c = left_out _ _ _ _ _ _ _ c.requires.0 c.requires.1 (sym (c.keeps_all.ensures _) ∙ c.if-keeps_all.true)
 
 pub overflow_sub-q : goal.overflow_sub-q
 overflow_sub-q c = omega (arith, half_most _ c.requires.1)
 
 pub clip_polygon-m-requires : goal.clip_polygon-m-requires
-clip_polygon-m-requires c = let s = c.before.before.before.before.before.before.before in
-    (s.requires.0, halves _ s.requires.1, s.requires.2, s.requires.3)
+clip_polygon-m-requires c = (c.requires.0, halves _ c.requires.1, c.requires.2, c.requires.3)
 
 pub returns : goal.returns
-returns c = let s = c.before.before.before.before.before.before.before.before.before.before.before.before in
-    gone_over _ _ _ _ _ _ _ s.requires.0 s.requires.1 _ _ _ c.clip_polygon-m.ensures
+returns c = gone_over _ _ _ _ _ _ _ c.requires.0 c.requires.1 _ _ _ c.clip_polygon-m.ensures

@@ -1,5 +1,6 @@
 -- `picked`: each loop's best is the best of the first i that are left, by the definition; what a search finds is read at its place, and is what the
 -- definition picks.
+use borrow.Author.Tests.{not-false, not-true}
 use Prim.Native.Nat.{ℕ, ◌+◌, ◌-◌, ◌≤◌, ◌<◌}
 use mathlib.Core.Path.{◌≡◌, refl, sym, ap, ap₂, ◌∙◌}
 use mathlib.Core.Bool.{false}
@@ -29,10 +30,46 @@ use Rattle.reduce.proofs.Answers.{Turn, nothing, second_turn, third_turn, fourth
 use Rattle.reduce.proofs.Answers.{fourth_low, third_end, fourth_end}
 use Rattle.reduce.proofs.Picks.{no_first, a_first, no_second, a_second, no_third, a_third, no_fourth, a_fourth}
 use Rattle.reduce.proofs.picked.Goals as goal
-use Rattle.reduce.proofs.picked.Goals.{After-first_three-t, After-loop-i3, After-loop-i4, After-standing1-place, After-standing1-place2, After-standing2-place, After-standing2-place3, After-standing3-place, After-standing3-place4, Else-not-first, Else-not-fourth, Else-not-third, Else-second-far, Start}
+use Rattle.reduce.proofs.picked.Goals.{After-standing1-place, After-standing2-place, After-standing2-place3, After-standing3-place, Start}
 use Rattle.reduce.proofs.picked.Lts
 use Rattle.reduce.proofs.picked.Tie
 use Rattle.reduce.proofs.picked.Reads
+
+-- the place itself
+abbrev AfterStanding3Place4 : Type 0
+AfterStanding3Place4 = Lts.After-standing32 Tie.the-claims Reads.Pre Reads.Post goal.the-invariant-loop-i goal.the-decreases-loop-i goal.the-invariant-loop-i2 goal.the-decreases-loop-i2 goal.the-invariant-loop-i3 goal.the-decreases-loop-i3 goal.the-invariant-loop-i4 goal.the-decreases-loop-i4
+
+-- the place itself
+abbrev ElseNotThird : Type 0
+ElseNotThird = Lts.Else3 Tie.the-claims Reads.Pre Reads.Post goal.the-invariant-loop-i goal.the-decreases-loop-i goal.the-invariant-loop-i2 goal.the-decreases-loop-i2 goal.the-invariant-loop-i3 goal.the-decreases-loop-i3 goal.the-invariant-loop-i4 goal.the-decreases-loop-i4
+
+-- the place itself
+abbrev AfterStanding1Place2 : Type 0
+AfterStanding1Place2 = Lts.After-standing12 Tie.the-claims Reads.Pre Reads.Post goal.the-invariant-loop-i goal.the-decreases-loop-i goal.the-invariant-loop-i2 goal.the-decreases-loop-i2 goal.the-invariant-loop-i3 goal.the-decreases-loop-i3 goal.the-invariant-loop-i4 goal.the-decreases-loop-i4
+
+-- the place itself
+abbrev ElseNotFourth : Type 0
+ElseNotFourth = Lts.Else4 Tie.the-claims Reads.Pre Reads.Post goal.the-invariant-loop-i goal.the-decreases-loop-i goal.the-invariant-loop-i2 goal.the-decreases-loop-i2 goal.the-invariant-loop-i3 goal.the-decreases-loop-i3 goal.the-invariant-loop-i4 goal.the-decreases-loop-i4
+
+-- the place itself
+abbrev ElseSecondFar : Type 0
+ElseSecondFar = Lts.Else2 Tie.the-claims Reads.Pre Reads.Post goal.the-invariant-loop-i goal.the-decreases-loop-i goal.the-invariant-loop-i2 goal.the-decreases-loop-i2 goal.the-invariant-loop-i3 goal.the-decreases-loop-i3 goal.the-invariant-loop-i4 goal.the-decreases-loop-i4
+
+-- the place itself
+abbrev AfterLoopI3 : Type 0
+AfterLoopI3 = Lts.After-loop3 Tie.the-claims Reads.Pre Reads.Post goal.the-invariant-loop-i goal.the-decreases-loop-i goal.the-invariant-loop-i2 goal.the-decreases-loop-i2 goal.the-invariant-loop-i3 goal.the-decreases-loop-i3 goal.the-invariant-loop-i4 goal.the-decreases-loop-i4
+
+-- the place itself
+abbrev AfterLoopI4 : Type 0
+AfterLoopI4 = Lts.After-loop4 Tie.the-claims Reads.Pre Reads.Post goal.the-invariant-loop-i goal.the-decreases-loop-i goal.the-invariant-loop-i2 goal.the-decreases-loop-i2 goal.the-invariant-loop-i3 goal.the-decreases-loop-i3 goal.the-invariant-loop-i4 goal.the-decreases-loop-i4
+
+-- the place itself
+abbrev AfterFirstThreeT : Type 0
+AfterFirstThreeT = Lts.After-first_three Tie.the-claims Reads.Pre Reads.Post goal.the-invariant-loop-i goal.the-decreases-loop-i goal.the-invariant-loop-i2 goal.the-decreases-loop-i2 goal.the-invariant-loop-i3 goal.the-decreases-loop-i3 goal.the-invariant-loop-i4 goal.the-decreases-loop-i4
+
+-- the place itself
+abbrev ElseNotFirst : Type 0
+ElseNotFirst = Lts.Else1 Tie.the-claims Reads.Pre Reads.Post goal.the-invariant-loop-i goal.the-decreases-loop-i goal.the-invariant-loop-i2 goal.the-decreases-loop-i2 goal.the-invariant-loop-i3 goal.the-decreases-loop-i3 goal.the-invariant-loop-i4 goal.the-decreases-loop-i4
 
 -- the place itself
 abbrev AfterLoopI2 : Type 0
@@ -205,15 +242,15 @@ first_is c =
     ends start [] (first_turn start.args.far start.args.direction) (nothing (neg largest)) l.first l.i
     (omega (arith, l.invariant.0)) (omega (arith, c.loop-i-test.false)) l.invariant.1
 
-first_index : (c : Else-not-first)
+first_index : (c : ElseNotFirst)
     → c.loop-i.first.index < c.args.n - 0
 first_index c =
     let start = c.before.before.before.before.before.before.before in
     let best = c.loop-i.first in
-    index_low start.before [] best.index (first_low start.args.far start.args.direction (images start.before) best (first_is c.before.before.before)
-    (c.if-not-first.false))
+    index_low start [] best.index (first_low start.args.far start.args.direction (images start) best (first_is c.before.before)
+    (not-false _ c.if-not-first.false))
 
-one_low : (c : Else-not-first)
+one_low : (c : ElseNotFirst)
     → c.loop-i.first.index < c.args.n
 one_low c = omega (arith, first_index c)
 
@@ -225,7 +262,7 @@ one_taken c =
     let best = c.loop-i.first in
     a_first a.far a.normal a.direction (images start) (placed (images start)) best (first_is c.before.before.before) (v1 c) (p1 c)
     (reads start [] best.index best.index (v1 c) (first_index c.before) refl c.held_at-v1.ensures)
-    (says start [] best.index best.index (v1 c) (first_index c.before) refl c.held_at-v1.ensures) (c.if-not-first.false)
+    (says start [] best.index best.index (v1 c) (first_index c.before) refl c.held_at-v1.ensures) (not-false _ c.if-not-first.false)
 
 -- ---- the second
 turn2_low : (c : After-standing1-place)
@@ -236,34 +273,34 @@ turn2_low c =
 
 second_is : (c : AfterLoopI2)
     → let first = c.before.before.before.before in
-    c.loop-i2.second ≡ second_best (start1 first.before).args.normal (v1 first.before).position (rest (start1 first.before) (js1 first.before))
+    c.loop-i2.second ≡ second_best (start1 first).args.normal (v1 first).position (rest (start1 first) (js1 first))
 unfolding second_best
 second_is c =
     let first = c.before.before.before.before in
-    let start = start1 first.before in
+    let start = start1 first in
     let l = c.loop-i2 in
-    ends start (js1 first.before) (second_turn start.args.normal (v1 first.before).position) (nothing (float 0)) l.second l.i2 l.invariant.0
+    ends start (js1 first) (second_turn start.args.normal (v1 first).position) (nothing (float 0)) l.second l.i2 l.invariant.0
     c.loop-i2-test.false l.invariant.1
 
-enough : (c : Else-second-far)
-    → lt c.loop-i2.second.score (tolerance (start1 c.before.before.before.before.before.before.before).args.far) ≡ false
+enough : (c : ElseSecondFar)
+    → lt c.loop-i2.second.score (tolerance (start1 c.before.before.before.before.before.before).args.far) ≡ false
 enough c = c.if-second-far.false
 
-second_index : (c : Else-second-far)
-    → c.loop-i2.second.index < (start1 c.before.before.before.before.before.before.before).args.n - 1
+second_index : (c : ElseSecondFar)
+    → c.loop-i2.second.index < (start1 c.before.before.before.before.before.before).args.n - 1
 second_index c =
     let first = c.before.before.before.before.before.before in
-    let start = start1 first.before in
+    let start = start1 first in
     let best = c.loop-i2.second in
-    index_low start (js1 first.before) best.index (second_low (tolerance start.args.far) start.requires.4 start.args.normal (v1 first.before).position
-    (rest start (js1 first.before)) best (second_is c.before.before) (enough c))
+    index_low start (js1 first) best.index (second_low (tolerance start.args.far) start.requires.4 start.args.normal (v1 first).position
+    (rest start (js1 first)) best (second_is c.before.before) (enough c))
 
-two_low : (c : After-standing1-place2)
-    → c.standing1-place2.result < (start1 c.before.before.before.before.before.before.before.before).args.n
+two_low : (c : AfterStanding1Place2)
+    → c.standing1-place2.result < (start1 c.before.before.before.before.before.before.before).args.n
 two_low c =
     let first = c.before.before.before.before.before.before.before in
     let best = c.loop-i2.second in
-    place_low (start1 first.before).args.n (js1 first.before) best.index c.standing1-place2.result (second_index c.before) c.standing1-place2.ensures
+    place_low (start1 first).args.n (js1 first) best.index c.standing1-place2.result (second_index c.before) c.standing1-place2.ensures
 
 two_taken : (c : Two) → p1 (one c) ∷ p2 c ∷ taken past_point (third_picks (start2 c).args.far (start2 c).args.normal (v1 (one c)) (v2 c)
     (rest (start2 c) (js2 c)))
@@ -288,13 +325,13 @@ turn3_low c =
     let second = c.before.before.before.before.before.before in
     place_low (start2 second.before).args.n (js2 second.before) c.loop-i3.i3 c.standing2-place.result c.loop-i3-test.true c.standing2-place.ensures
 
-third_is : (c : After-loop-i3)
+third_is : (c : AfterLoopI3)
     → let second = c.before.before.before.before.before in
-    c.loop-i3.third ≡ third_best (start2 second.before).args.normal (tolerance (start2 second.before).args.far) (v1 (one second.before)).position (v2 second.before).position
-    (rest (start2 second.before) (js2 second.before))
+    c.loop-i3.third ≡ third_best (start2 second).args.normal (tolerance (start2 second).args.far) (v1 (one second)).position (v2 second).position
+    (rest (start2 second) (js2 second))
 third_is c =
     let second = c.before.before.before.before.before in
-    let start = start2 second.before in
+    let start = start2 second in
     let a = start.args in
     let l = c.loop-i3 in
     let ba = c.sub-ba in
@@ -303,14 +340,14 @@ third_is c =
     (ends start (js2 second) (third_turn a.normal (v1 (one second)).position ba.result) (nothing (tolerance a.far)) l.third l.i3
     l.invariant.0 c.loop-i3-test.false l.invariant.1)
 
-third_index : (c : Else-not-third)
-    → c.loop-i3.third.index < (start2 c.before.before.before.before.before.before.before.before).args.n - 2
+third_index : (c : ElseNotThird)
+    → c.loop-i3.third.index < (start2 c.before.before.before.before.before.before.before).args.n - 2
 third_index c =
     let second = c.before.before.before.before.before.before.before in
-    let start = start2 second.before in
+    let start = start2 second in
     let best = c.loop-i3.third in
-    index_low start (js2 second.before) best.index (third_low (tolerance start.args.far) start.args.normal (v1 (one second.before)).position (v2 second.before).position
-    (rest start (js2 second.before)) best (third_is c.before.before) (c.if-not-third.false))
+    index_low start (js2 second) best.index (third_low (tolerance start.args.far) start.args.normal (v1 (one second)).position (v2 second).position
+    (rest start (js2 second)) best (third_is c.before.before) (not-false _ c.if-not-third.false))
 
 three_low : (c : After-standing2-place3)
     → c.standing2-place3.result < (start2 c.before.before.before.before.before.before.before.before.before).args.n
@@ -332,7 +369,7 @@ three_taken c =
     (third_is c.before.before.before.before) (v3 c) (p3 c)
     (reads start js best.index place.result (v3 c) (third_index c.before.before) place.ensures c.held_at-v3.ensures)
     (says start js best.index place.result (v3 c) (third_index c.before.before) place.ensures c.held_at-v3.ensures)
-    (c.if-not-third.false))
+    (not-false _ c.if-not-third.false))
     ∙ two_taken (two c)
 
 -- ---- the fourth
@@ -353,45 +390,45 @@ turn4_low c =
 abbrev triangle : Three → Triangle
 triangle c = triangle_of (start3 c).args.normal (v1 (one (two c))).position (v2 (two c)).position (v3 c).position
 
-triangle_is : (c : After-first_three-t)
-    → c.first_three-t.result ≡ triangle c.before.before.before.before
+triangle_is : (c : AfterFirstThreeT)
+    → c.first_three-t.result ≡ triangle c.before.before.before
 triangle_is c = c.first_three-t.ensures
 
-fourth_is : (c : After-loop-i4)
+fourth_is : (c : AfterLoopI4)
     → let third = c.before.before.before.before in
-    c.loop-i4.fourth ≡ fourth_best (start3 third.before.before).args.normal (tolerance (start3 third.before.before).args.far) (triangle third.before.before) (rest (start3 third.before.before) (js3 third.before.before))
+    c.loop-i4.fourth ≡ fourth_best (start3 third.before).args.normal (tolerance (start3 third.before).args.far) (triangle third.before) (rest (start3 third.before) (js3 third.before))
 fourth_is c =
     let third = c.before.before.before.before in
-    let start = start3 third.before.before in
+    let start = start3 third.before in
     let a = start.args in
     let l = c.loop-i4 in
     let t = c.first_three-t.result in
-    fourth_end (tolerance a.far) a.normal (triangle third.before.before) t (rest start (js3 third)) l.fourth (triangle_is c.before.before)
-    (ends start (js3 third) (fourth_turn a.normal t) (nothing (tolerance a.far)) l.fourth l.i4 l.invariant.0
+    fourth_end (tolerance a.far) a.normal (triangle third.before) t (rest start (js3 third.before)) l.fourth (triangle_is c.before.before)
+    (ends start (js3 third.before) (fourth_turn a.normal t) (nothing (tolerance a.far)) l.fourth l.i4 l.invariant.0
     c.loop-i4-test.false l.invariant.1)
 
-fourth_index : (c : Else-not-fourth)
-    → c.loop-i4.fourth.index < (start3 c.before.before.before.before.before.before.before.before).args.n - 3
+fourth_index : (c : ElseNotFourth)
+    → c.loop-i4.fourth.index < (start3 c.before.before.before.before.before.before.before).args.n - 3
 fourth_index c =
     let third = c.before.before.before.before.before.before in
-    let start = start3 third.before.before in
+    let start = start3 third.before in
     let best = c.loop-i4.fourth in
-    index_low start (js3 third.before.before) best.index (fourth_low (tolerance start.args.far) start.args.normal (triangle third.before.before) (rest start (js3 third.before.before)) best
-    (fourth_is c.before.before) (c.if-not-fourth.false))
+    index_low start (js3 third.before) best.index (fourth_low (tolerance start.args.far) start.args.normal (triangle third.before) (rest start (js3 third.before)) best
+    (fourth_is c.before.before) (not-false _ c.if-not-fourth.false))
 
-fourth_place : (c : After-standing3-place4)
+fourth_place : (c : AfterStanding3Place4)
     → let third = c.before.before.before.before.before.before.before in
-    c.standing3-place4.result ≡ stands (start3 third.before.before).args.n (js3 third.before.before) c.loop-i4.fourth.index
+    c.standing3-place4.result ≡ stands (start3 third.before).args.n (js3 third.before) c.loop-i4.fourth.index
 fourth_place c =
     let best = c.loop-i4.fourth in
-    place4 c.before.before.before.before.before.before.before.before.before best.index c.standing3-place4.result c.standing3-place4.ensures
+    place4 c.before.before.before.before.before.before.before.before best.index c.standing3-place4.result c.standing3-place4.ensures
 
-four_low : (c : After-standing3-place4)
-    → c.standing3-place4.result < (start3 c.before.before.before.before.before.before.before.before.before).args.n
+four_low : (c : AfterStanding3Place4)
+    → c.standing3-place4.result < (start3 c.before.before.before.before.before.before.before.before).args.n
 four_low c =
     let third = c.before.before.before.before.before.before.before in
     let best = c.loop-i4.fourth in
-    place_low (start3 third.before.before).args.n (js3 third.before.before) best.index c.standing3-place4.result (fourth_index c.before) (fourth_place c)
+    place_low (start3 third.before).args.n (js3 third.before) best.index c.standing3-place4.result (fourth_index c.before) (fourth_place c)
 
 four_taken : (c : Four) → p1 (one (two (three c))) ∷ p2 (two (three c)) ∷ p3 (three c) ∷ p4 c ∷ [] ≡ all (start3 (three c))
 four_taken c =
@@ -405,7 +442,7 @@ four_taken c =
     (fourth_is c.before.before.before.before) (p4 c)
     (says start js best.index c.standing3-place4.result c.held_at-v4.result (fourth_index c.before.before) (fourth_place c.before)
     c.held_at-v4.ensures)
-    (c.if-not-fourth.false))
+    (not-false _ c.if-not-fourth.false))
     ∙ three_taken third
 
 -- the points as the code makes them
@@ -457,13 +494,13 @@ returns-then-not-first c =
     let a = start.args in
     c.empty_contact.ensures
     ∙ ap (contact_of a.normal) (no_first a.far a.normal a.direction (images start.before) (placed (images start.before))
-    c.loop-i.first (first_is c.before.before.before.before) (c.if-not-first.true))
+    c.loop-i.first (first_is c.before.before.before.before) (not-true _ c.if-not-first.true))
 
 pub held_at-v1-requires : goal.held_at-v1-requires
-held_at-v1-requires c = room c.before.before.before.before.before.before.before.before c.loop-i.first.index (one_low c)
+held_at-v1-requires c = room c.before.before.before.before.before.before.before.before c.loop-i.first.index (one_low c.before)
 
 pub overflow_cast-j1 : goal.overflow_cast-j1
-overflow_cast-j1 c = omega (arith, one_low c.before, (start1 c).requires.2)
+overflow_cast-j1 c = omega (arith, one_low c.before.before, (start1 c.before).requires.2)
 
 pub overflow_sub-left2 : goal.overflow_sub-left2
 overflow_sub-left2 c = omega (arith, (start1 c.before.before.before).requires.3)
@@ -510,17 +547,17 @@ returns-then-second-far c =
     c.one_point.ensures
     ∙ ap (contact_of a.normal)
     (ap₂ ◌∷◌ (told1 point.before) (no_second a.far a.normal (v1 first.before) (rest (start1 first.before) (js1 first.before)) (rest_points (start1 first.before) (js1 first.before))
-    c.loop-i2.second (second_is c.before.before.before) c.if-second-far.true)
-    ∙ one_taken first)
+    c.loop-i2.second (second_is c.before.before.before.before) c.if-second-far.true)
+    ∙ one_taken first.before)
 
 pub standing1-place2-requires : goal.standing1-place2-requires
 standing1-place2-requires c = omega (arith, (start1 c.before.before.before.before.before.before.before).requires.3)
 
 pub held_at-v2-requires : goal.held_at-v2-requires
-held_at-v2-requires c = room (start1 c.before.before.before.before.before.before.before.before) c.standing1-place2.result (two_low c)
+held_at-v2-requires c = room (start1 c.before.before.before.before.before.before.before.before) c.standing1-place2.result (two_low c.before)
 
 pub overflow_cast-place2 : goal.overflow_cast-place2
-overflow_cast-place2 c = omega (arith, two_low c.before, (start2 c).requires.2)
+overflow_cast-place2 c = omega (arith, two_low c.before.before, (start2 c.before).requires.2)
 
 pub overflow_sub-left3 : goal.overflow_sub-left3
 overflow_sub-left3 c = omega (arith, (start2 c.before.before.before.before).requires.3)
@@ -575,9 +612,9 @@ returns-then-not-third c =
     c.two_points.ensures
     ∙ ap (contact_of a.normal)
     (ap₂ ◌∷◌ (told1 (made1 second.before)) (ap₂ ◌∷◌ (told2 point.before) (no_third a.far a.normal (v1 (one second.before)) (v2 second.before) (rest (start2 second.before) (js2 second.before))
-    (rest_points (start2 second.before) (js2 second.before)) c.loop-i3.third (third_is c.before.before.before)
-    (c.if-not-third.true)))
-    ∙ two_taken second)
+    (rest_points (start2 second.before) (js2 second.before)) c.loop-i3.third (third_is c.before.before.before.before)
+    (not-true _ c.if-not-third.true)))
+    ∙ two_taken second.before)
 
 pub standing2-place3-requires : goal.standing2-place3-requires
 standing2-place3-requires c = omega (arith, (start2 c.before.before.before.before.before.before.before.before).requires.3)
@@ -635,17 +672,17 @@ returns-then-not-fourth c =
     ∙ ap (contact_of a.normal)
     (ap₂ ◌∷◌ (told1 (made1 second)) (ap₂ ◌∷◌ (told2 (made2 third.before.before)) (ap₂ ◌∷◌ (told3 point.before.before)
     (no_fourth a.far a.normal (v1 (one second)) (v2 second) (v3 third.before.before) (rest (start3 third.before.before) (js3 third.before.before)) (rest_points (start3 third.before.before) (js3 third.before.before))
-    c.loop-i4.fourth (fourth_is c.before.before.before) (c.if-not-fourth.true))))
+    c.loop-i4.fourth (fourth_is c.before.before.before.before) (not-true _ c.if-not-fourth.true))))
     ∙ three_taken third)
 
 pub standing3-place4-requires : goal.standing3-place4-requires
 standing3-place4-requires c = omega (arith, (start3 c.before.before.before.before.before.before.before.before).requires.3)
 
 pub held_at-v4-requires : goal.held_at-v4-requires
-held_at-v4-requires c = room (start3 c.before.before.before.before.before.before.before.before.before) c.standing3-place4.result (four_low c)
+held_at-v4-requires c = room (start3 c.before.before.before.before.before.before.before.before.before) c.standing3-place4.result (four_low c.before)
 
 pub overflow_cast-place4 : goal.overflow_cast-place4
-overflow_cast-place4 c = omega (arith, four_low c.before, (start3 (three c)).requires.2)
+overflow_cast-place4 c = omega (arith, four_low c.before.before, (start3 (three c.before)).requires.2)
 
 pub returns : goal.returns
 returns c =

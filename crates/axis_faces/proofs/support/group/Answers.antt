@@ -1,0 +1,34 @@
+-- The values of four vertices are finite, so numbers may be embedded in them.
+use native.Mathlib.Omega.{arith}
+use Rattle.axis_faces.specs.Support.{group_of}
+use Rattle.axis_faces.proofs.Lanes.{value_finite}
+use Rattle.axis_faces.proofs.support.group.Goals as goal
+
+pub embed_index_w-requires : goal.embed_index_w-requires
+embed_index_w-requires c =
+    let p = c.requires in
+    let R = p.0 in (
+      record {
+        on_x = value_finite R _ _ _ (omega (arith, p.1)) c.vertex_at.ensures
+            c.value-x.ensures;
+        on_y = value_finite R _ _ _ (omega (arith, p.1)) c.vertex_at-2.ensures
+            c.value-y.ensures;
+        on_z = value_finite R _ _ _ (omega (arith, p.1)) c.vertex_at-3.ensures c.value-z.ensures;
+        on_w = value_finite R _ _ _ p.1 c.vertex_at-4.ensures c.value-w.ensures;
+      },
+      omega (arith, p.1, R.fit.v_high),
+    )
+
+pub returns : goal.returns
+unfolding group_of
+returns c = simp (
+  c.embed_index_w.ensures,
+  c.value-w.ensures,
+  c.vertex_at-4.ensures,
+  c.value-z.ensures,
+  c.vertex_at-3.ensures,
+  c.value-y.ensures,
+  c.vertex_at-2.ensures,
+  c.value-x.ensures,
+  c.vertex_at.ensures,
+)
