@@ -144,6 +144,10 @@ def mend(crate, said, names):
         if x:
             edits.setdefault(path, []).append((line, col, "name", (x.group(1), x.group(2))))
             continue
+        x = re.search(r"Last[\w-]*` has no field `(\d+)`\s+the fields that can be named here are ((?:`[\w'-]+`(?:, )?)+)", b)
+        if x:
+            edits.setdefault(path, []).append((line, col, "new", re.findall(r"`([^`]+)`", x.group(2))))
+            continue
         x = re.search(r"has no field `(\d+)`\s+its fields are ((?:`[\w'-]+`(?:, )?)+)", b)
         if x:
             fields = re.findall(r"`([^`]+)`", x.group(2))
@@ -234,6 +238,17 @@ def mend(crate, said, names):
                 if m:
                     text = text[: m.start()] + text[at:]
                     done += 1
+            elif kind == "new":
+                start = text.rfind("\n", 0, at) + 1
+                end = text.find("\n", at)
+                for m in re.finditer(r"\.new((?:\.1)*)(\.0)?(?![\d])", text[start:end]):
+                    n = m.group(1).count(".1")
+                    if not m.group(1) and not m.group(2):
+                        continue
+                    if start + m.end() >= at and n < len(what):
+                        text = text[: start + m.start()] + ".new." + what[n] + text[start + m.end():]
+                        done += 1
+                        break
             elif kind == "names":
                 new = re.sub(r"\." + re.escape(what[0]) + r"(?![\w+'-])", "." + what[1], text)
                 done += new != text

@@ -13,19 +13,25 @@ use Rattle.clip.proofs.Batches.{ahead_filled, ahead_here, ahead_next}
 use Rattle.clip.proofs.Rings.{Turned, begun, left_of_built, round_begins, round_cut, round_full, round_few, round_back}
 use Rattle.clip.proofs.Rings.{round_goes, round_shorter}
 use Rattle.clip.proofs.clip_to_face.Goals as goal
-use Rattle.clip.proofs.clip_to_face.Goals.{After-cut_side-kept}
+use Rattle.clip.proofs.clip_to_face.Lts
+use Rattle.clip.proofs.clip_to_face.Tie
+use Rattle.clip.proofs.clip_to_face.Reads
+
+-- the place itself
+abbrev AfterCutSideKept : Type 0
+AfterCutSideKept = Lts.After-cut_side Tie.the-claims Reads.Pre Reads.Post goal.the-invariant-loop-size_a goal.the-decreases-loop-size_a
 
 -- what the loop knows behind a cut
-abbrev Turned-at : After-cut_side-kept → Type 0
+abbrev Turned-at : AfterCutSideKept → Type 0
 Turned-at k =
     let a = k.args in
     let built = k.build_polygon-n in
     Turned a.size_a a.numbers_a.now a.links_a.now a.face k.face_edge-start.result
     (cut_round a.size_a a.numbers_a.now a.links_a.now a.face (face_ring a.size_a a.links_a.now a.face)
-    (corners_in built.new.1.1.1.1.1.1.0 built.new.1.1.1.1.1.1.1.0 0 built.result))
-    k.cut_side-kept.new.0 k.cut_side-kept.new.1.0 k.cut_side-kept.result k.loop-size_a.e
+    (corners_in built.new.places built.new.tags 0 built.result))
+    k.cut_side-kept.new.numbers k.cut_side-kept.new.tags k.cut_side-kept.result k.loop-size_a.e
 
-turned : (k : After-cut_side-kept) → Turned-at k
+turned : (k : AfterCutSideKept) → Turned-at k
 turned k = let i = k.loop-size_a.invariant in
     round_cut _ _ _ k.requires.0 _ k.requires.2 _ k.face_edge-start.ensures _ _ _ _ _ _ i.0 _ _
     k.plane_at-reference.ensures (k.side_in-plane.ensures ∙ ahead_here _ _ _ _ _ _ i.1) _ _ _ k.cut_side-kept.ensures
@@ -69,7 +75,7 @@ pub returns-then-kept-gt64 : goal.returns-then-kept-gt64
 returns-then-kept-gt64 c = let k = c.before.before.before.before.before.before in
     left_of_built _ _ _ _ _ _ _ _ _ _ _ _ _ _
     (begun _ _ _ _ _ _ _ _ _ _ _ k.requires.4 k.build_polygon-n.ensures) k.plane_at-reference.ensures _ _ _
-    (round_full _ _ _ k.requires.0 _ k.requires.2 _ k.face_edge-start.ensures _ _ _ _ _ (turned k) c.if-kept-gt64.true)
+    (round_full _ _ _ k.requires.0 _ k.requires.2 _ k.face_edge-start.ensures _ _ _ _ _ (turned k.before) c.if-kept-gt64.true)
 
 pub shape_of-places-then-kept-lt3 : goal.shape_of-places-then-kept-lt3
 shape_of-places-then-kept-lt3 c = c.cut_side-kept.ensures.0.roomy.numbers_room ∙ sym c.requires.4.numbers_room
@@ -81,7 +87,7 @@ pub returns-then-kept-lt3 : goal.returns-then-kept-lt3
 returns-then-kept-lt3 c = let k = c.before.before.before.before.before.before.before.before in
     left_of_built _ _ _ _ _ _ _ _ _ _ _ _ _ _
     (begun _ _ _ _ _ _ _ _ _ _ _ k.requires.4 k.build_polygon-n.ensures) k.plane_at-reference.ensures _ _ _
-    (round_few _ _ _ k.requires.0 _ k.requires.2 _ k.face_edge-start.ensures _ _ _ _ _ (turned k) c.if-kept-lt3.true)
+    (round_few _ _ _ k.requires.0 _ k.requires.2 _ k.face_edge-start.ensures _ _ _ _ _ (turned k.before) c.if-kept-lt3.true)
 
 pub next_of-e-requires : goal.next_of-e-requires
 next_of-e-requires c = (
@@ -99,7 +105,7 @@ pub returns-then-e-start : goal.returns-then-e-start
 returns-then-e-start c = let k = c.before.before.before.before.before.before.before.before.before.before in
     left_of_built _ _ _ _ _ _ _ _ _ _ _ _ _ _
     (begun _ _ _ _ _ _ _ _ _ _ _ k.requires.4 k.build_polygon-n.ensures) k.plane_at-reference.ensures _ _ _
-    (round_back _ _ _ k.requires.0 _ k.requires.2 _ k.face_edge-start.ensures _ _ _ _ _ (turned k)
+    (round_back _ _ _ k.requires.0 _ k.requires.2 _ k.face_edge-start.ensures _ _ _ _ _ (turned k.before)
     c.if-kept-gt64.false c.if-kept-lt3.false _ c.next_of-e.ensures c.if-e-start.true)
 
 pub slice_bounds-next_side-end : goal.slice_bounds-next_side-end
@@ -115,7 +121,7 @@ next_side-k-requires c = let i = c.loop-size_a.invariant in
 
 pub loop-size_a-smaller : goal.loop-size_a-smaller
 loop-size_a-smaller c = let k = c.before.before.before.before.before.before.before.before.before.before.before.before.before in
-    round_shorter _ _ _ k.requires.0 _ k.requires.2 _ k.face_edge-start.ensures _ _ _ _ _ (turned k)
+    round_shorter _ _ _ k.requires.0 _ k.requires.2 _ k.face_edge-start.ensures _ _ _ _ _ (turned k.before.before)
     c.if-kept-gt64.false c.if-kept-lt3.false _
     c.next_of-e.ensures c.if-e-start.false
 
@@ -123,7 +129,7 @@ pub loop-size_a-preserved : goal.loop-size_a-preserved
 unfolding sides_from
 loop-size_a-preserved c = let k = c.before.before.before.before.before.before.before.before.before.before.before.before.before in
     (
-      round_goes _ _ _ k.requires.0 _ k.requires.2 _ k.face_edge-start.ensures _ _ _ _ _ (turned k)
+      round_goes _ _ _ k.requires.0 _ k.requires.2 _ k.face_edge-start.ensures _ _ _ _ _ (turned k.before.before)
           c.if-kept-gt64.false c.if-kept-lt3.false _
           c.next_of-e.ensures c.if-e-start.false,
       ahead_next _ _ _ _ _ _ k.loop-size_a.invariant.1 _ c.next_of-e.ensures

@@ -30,10 +30,14 @@ use Rattle.reduce.proofs.Answers.{Turn, nothing, second_turn, third_turn, fourth
 use Rattle.reduce.proofs.Answers.{fourth_low, third_end, fourth_end}
 use Rattle.reduce.proofs.Picks.{no_first, a_first, no_second, a_second, no_third, a_third, no_fourth, a_fourth}
 use Rattle.reduce.proofs.picked.Goals as goal
-use Rattle.reduce.proofs.picked.Goals.{After-standing1-place, After-standing2-place, After-standing2-place3, After-standing3-place, Start}
+use Rattle.reduce.proofs.picked.Goals.{After-standing1-place, After-standing2-place, After-standing3-place, Start}
 use Rattle.reduce.proofs.picked.Lts
 use Rattle.reduce.proofs.picked.Tie
 use Rattle.reduce.proofs.picked.Reads
+
+-- the place itself
+abbrev AfterStanding2Place3 : Type 0
+AfterStanding2Place3 = Lts.After-standing22 Tie.the-claims Reads.Pre Reads.Post goal.the-invariant-loop-i goal.the-decreases-loop-i goal.the-invariant-loop-i2 goal.the-decreases-loop-i2 goal.the-invariant-loop-i3 goal.the-decreases-loop-i3 goal.the-invariant-loop-i4 goal.the-decreases-loop-i4
 
 -- the place itself
 abbrev AfterStanding3Place4 : Type 0
@@ -349,12 +353,12 @@ third_index c =
     index_low start (js2 second) best.index (third_low (tolerance start.args.far) start.args.normal (v1 (one second)).position (v2 second).position
     (rest start (js2 second)) best (third_is c.before.before) (not-false _ c.if-not-third.false))
 
-three_low : (c : After-standing2-place3)
-    → c.standing2-place3.result < (start2 c.before.before.before.before.before.before.before.before.before).args.n
+three_low : (c : AfterStanding2Place3)
+    → c.standing2-place3.result < (start2 c.before.before.before.before.before.before.before.before).args.n
 three_low c =
     let second = c.before.before.before.before.before.before.before.before in
     let best = c.loop-i3.third in
-    place_low (start2 second.before).args.n (js2 second.before) best.index c.standing2-place3.result (third_index c.before) c.standing2-place3.ensures
+    place_low (start2 second).args.n (js2 second) best.index c.standing2-place3.result (third_index c.before) c.standing2-place3.ensures
 
 three_taken : (c : Three) → p1 (one (two c)) ∷ p2 (two c) ∷ p3 c
     ∷ taken past_point (fourth_picks (start3 c).args.far (start3 c).args.normal (v1 (one (two c))) (v2 (two c)) (v3 c) (rest (start3 c) (js3 c)))
@@ -620,10 +624,10 @@ pub standing2-place3-requires : goal.standing2-place3-requires
 standing2-place3-requires c = omega (arith, (start2 c.before.before.before.before.before.before.before.before).requires.3)
 
 pub held_at-v3-requires : goal.held_at-v3-requires
-held_at-v3-requires c = room (start2 c.before.before.before.before.before.before.before.before.before) c.standing2-place3.result (three_low c)
+held_at-v3-requires c = room (start2 c.before.before.before.before.before.before.before.before.before) c.standing2-place3.result (three_low c.before)
 
 pub overflow_cast-place3 : goal.overflow_cast-place3
-overflow_cast-place3 c = omega (arith, three_low c.before, (start3 c).requires.2)
+overflow_cast-place3 c = omega (arith, three_low c.before.before, (start3 c.before).requires.2)
 
 pub overflow_sub-left4 : goal.overflow_sub-left4
 overflow_sub-left4 c = omega (arith, (start3 c.before.before.before.before).requires.3)
@@ -673,7 +677,7 @@ returns-then-not-fourth c =
     (ap₂ ◌∷◌ (told1 (made1 second)) (ap₂ ◌∷◌ (told2 (made2 third.before.before)) (ap₂ ◌∷◌ (told3 point.before.before)
     (no_fourth a.far a.normal (v1 (one second)) (v2 second) (v3 third.before.before) (rest (start3 third.before.before) (js3 third.before.before)) (rest_points (start3 third.before.before) (js3 third.before.before))
     c.loop-i4.fourth (fourth_is c.before.before.before.before) (not-true _ c.if-not-fourth.true))))
-    ∙ three_taken third)
+    ∙ three_taken third.before.before)
 
 pub standing3-place4-requires : goal.standing3-place4-requires
 standing3-place4-requires c = omega (arith, (start3 c.before.before.before.before.before.before.before.before).requires.3)
@@ -692,4 +696,4 @@ returns c =
     c.four_points.ensures
     ∙ ap (contact_of (start3 third).args.normal)
     (ap₂ ◌∷◌ (told1 (made1 (two third))) (ap₂ ◌∷◌ (told2 (made2 third)) (ap₂ ◌∷◌ (told3 (made3 four.before)) (ap₂ ◌∷◌ told4 refl)))
-    ∙ four_taken four)
+    ∙ four_taken four.before)
