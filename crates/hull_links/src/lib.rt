@@ -1,5 +1,7 @@
 // The links of a hull: its sizes, and an accessor for each of the numbers that half-edges, vertices and faces store. What the rules H1 to H7 say of them
 // is in specs/Rules.antt; that each round of an accepted hull lists every half-edge once is shown in proofs/Rounds.antt.
+#![tactic(auto)]
+
 ghost use Rattle.std.specs.Prelude.{◌≡◌, ◌+◌, ◌*◌, ◌<◌, length, get_or};
 ghost use Rattle.hull_links.specs.Links.{padded, planes_from, next, twin, origin, face, vertex_edge, face_edge, LinksFit};
 

@@ -1,4 +1,5 @@
 // The records that contacts are made of, tags of points, and the way between floats and their bits. From manifold/types.rs; `flip_pair` from clip.rs.
+#![tactic(auto)]
 
 pub mod bits;
 pub mod pairs;

@@ -1,4 +1,6 @@
 // Rotations, as a quaternion and as three rows of three numbers, and transforms.
+#![tactic(auto)]
+
 ghost use Rattle.std.specs.Prelude.{◌≡◌};
 ghost use Rattle.rotation.specs.Rotation.{matrix_of, transpose_of, mul_mv_of, rotate_of, inv_rotate_of, transform_point_of, inv_transform_point_of, invert_of};
 
