@@ -24,8 +24,8 @@ pub struct Left {
     pub ok: bool,
 }
 
-// What there is to tell: what is left, or else what one read brings, and how much that is no contract can say. A read that brings nothing ends the input.
-// One that fails leaves nothing to tell, and is told on standard error.
+// What there is to tell: what is left, or else what one read brings, and how much that is no contract can say. A read that fails ends the input, as
+// does one that brings nothing, and is told on standard error.
 fn refill(rt: &HostRuntime, chunk: &mut [u8], from: usize, to: usize) -> Left
     requires { to ≤ length chunk.old }
     ensures { (result.from ≤ result.to) × (result.to ≤ length chunk.new)
@@ -84,13 +84,14 @@ fn write_answers(rt: &HostRuntime, out: &[u8], n: usize) -> Written
 }
 
 // Where the program stands between two turns. The characters `from` up to `to` of the chunk were read and are not told yet; `part` was told in the last
-// turn, its `count` places of `out` were handed to the write, and `ok` says whether that took them all and the read before it went well.
+// turn, its `count` places of `out` were handed to the write, and `ok` says whether that took them all. `read` says whether the last turn's read went well.
 #[derive(Clone, Copy)]
 pub struct State {
     pub from: usize,
     pub to: usize,
     pub part: Part,
     pub ok: bool,
+    pub read: bool,
 }
 
 // At most one read, what is told of what there is, and at most one write.
@@ -114,7 +115,8 @@ fn turn_once(rt: &HostRuntime, chunk: &mut [u8], line: &mut [u8], out: &mut [u8]
                 held: p,
                 count: 0,
             },
-            ok: left.ok,
+            ok: true,
+            read: left.ok,
         };
     }
     let part = tell_part(&chunk[from..to], line, p, out);
@@ -130,10 +132,11 @@ fn turn_once(rt: &HostRuntime, chunk: &mut [u8], line: &mut [u8], out: &mut [u8]
             count: written.count,
         },
         ok: written.ok,
+        read: left.ok,
     }
 }
 
-// One turn fewer, or none where the input ended or a read or a write failed.
+// One turn fewer, or none where the input ended or a write failed.
 fn fewer(turns: u64, to: usize, ok: bool) -> u64
     requires { 0 < turns }
     ensures { (result < turns) × (to ≡ 0 → result ≡ 0) × (ok ≡ false → result ≡ 0) × (0 < to → ok ≡ true → result ≡ turns - 1) }
@@ -147,8 +150,8 @@ fn fewer(turns: u64, to: usize, ok: bool) -> u64
     0
 }
 
-// What is told at the end of the input, and its write: how many places it was handed, and whether it took them all. Where a read or a write failed
-// nothing further is told.
+// What is told at the end of the input, and its write: how many places it was handed, and whether it took them all. Where a write failed nothing further
+// is told.
 fn finish(rt: &HostRuntime, line: &[u8], p: Pending, out: &mut [u8], ok: bool) -> Written
     requires { Ready line.now p × (longest_told ≤ length out.old) }
     ensures { (ok ≡ true → (xs : List ℕ) → Held xs line.now p → Answers (told_last xs) out.old result.count out.new)
@@ -164,8 +167,8 @@ fn finish(rt: &HostRuntime, line: &[u8], p: Pending, out: &mut [u8], ok: bool) -
     }
 }
 
-// What is held at the end of the input, how many places were handed to the last write, whether the reads and writes before it went well, and whether
-// the last one did too.
+// What is held at the end of the input, how many places were handed to the last write, whether the writes before it took everything, and whether that and
+// every read went well too.
 #[derive(Clone, Copy)]
 pub struct End {
     pub held: Pending,
@@ -191,6 +194,7 @@ fn run(rt: &HostRuntime, chunk: &mut [u8], line: &mut [u8], out: &mut [u8]) -> E
             count: 0,
         },
         ok: true,
+        read: true,
     };
     let mut turns = u64::MAX;
     while turns > 0 {
@@ -204,7 +208,7 @@ fn run(rt: &HostRuntime, chunk: &mut [u8], line: &mut [u8], out: &mut [u8]) -> E
         held: held,
         count: last.count,
         ok: s.ok,
-        all: last.ok,
+        all: s.read && last.ok,
     }
 }
 
