@@ -1,13 +1,9 @@
 -- Where a turn begins. Assumes nothing.
-use Prim.Native.Nat.{ℕ, ◌-◌, ◌≤◌, ◌<◌}
-use mathlib.Core.Path.{◌≡◌, refl, sym}
+use Prim.Native.Nat.{ℕ, ◌≤◌, ◌<◌}
+use mathlib.Core.Path.{◌≡◌, refl}
 use mathlib.Core.Bool.{Bool, true, false, cond}
-use mathlib.Core.List.{List}
 use borrow.Author.Tests.{ltb-true, ltb-false}
 use lib.Dec.{ltb}
-use lib.ListN.{take, drop}
-use Rattle.stream.specs.declared.Part.{Part}
-use Rattle.stream.specs.Tells.{Tells}
 use Rattle.contact.specs.declared.State.{State}
 use Rattle.contact.specs.Turns.{begins}
 
