@@ -7,7 +7,7 @@ bad=0
 miss() { echo "docs: $*"; bad=1; }
 
 # The edits: PROMISES.md names each one as crate/name, and each that it names is there.
-crates=$(sed -n 's/^\([a-z_0-9]*\):.*/\1/p' crates.txt)
+crates=$(sed -n 's/^\([a-z_0-9]*\)\( staticlib\)\{0,1\}:.*/\1/p' crates.txt)
 pattern="(^|[^a-z_/])($(echo $crates | tr ' ' '|'))/[a-z_0-9]+"
 named=$(grep -oE "$pattern" docs/PROMISES.md | sed 's/^[^a-z]*//' | sort -u)
 there=$(find crates -path '*/must-fail/*.edit' | sed 's|crates/||; s|/must-fail/|/|; s|\.edit$||' | sort)

@@ -36,7 +36,7 @@ for standard in c++11 c++17; do
 done
 abi=$(sed -n 's/^#define CONTACT_ABI \([0-9]*\)$/\1/p' host/c/contact.h)
 for place in 'host/c/contact.pc:abi=' 'host/records/src/lib.rs:pub const ABI: u32 = ' 'crates/contactlib/src/abi.rt:pub const ABI: u32 = ' \
-    'crates/contactlib/specs/Abi.antt:abiNumber = '; do
+    'crates/contactlib/specs/Abi.antt:abi_number = '; do
     grep -qE "^${place#*:}$abi;?\$" "${place%%:*}" || fail "${place%%:*} has another ABI number than the header, $abi"
 done
 echo "the header is C99, C11, C17, C++11 and C++17; its ABI number $abi is that of library, definition, wrapper and pkg-config file"

@@ -25,12 +25,11 @@ end() { # the part that was begun ends
     part "$begun" $((SECONDS - begun_clock)) $(($(children_seconds $$) - begun_cores))
 }
 
-# prove_all LOG: rt ci, its words printed but for its last line. Two parts: the proofs, and the must-fail edits with the
-# program's run on its stored frames. Four checks at a time keep two cores busy where two would wait for each other.
+# prove_all LOG: rt ci, its words printed but for its last line. One part, since edits are tried beside the proofs.
 prove_all() {
-    local log=$1 line last='' crates=0 edits=0 at=0 cores=0 used=0 now prover began=$SECONDS
+    local log=$1 line last='' crates=0 edits=0 used=0 now prover began=$SECONDS
     : >"$log"
-    RT_JOBS=${RT_JOBS:-4} rt ci >"$log" 2>&1 &
+    rt ci >"$log" 2>&1 &
     prover=$!
     while IFS= read -r line; do
         if [[ $line == "rt: "* ]]; then
@@ -39,13 +38,13 @@ prove_all() {
         fi
         case $line in
         "rt: must-fail "*) edits=$((edits + 1)) ;;
-        "rt: "*" proved ("*) crates=$((crates + 1)) at=$((SECONDS - began)) cores=$used ;;
+        "rt: "*" its tests"* | *" NOT PROVED"*) ;;
+        "rt: "*" proved" | "rt: "*" is kept: "*) crates=$((crates + 1)) ;;
         esac
         [ -z "$last" ] || echo "$last"
         last=$line
     done < <(tail -n +1 -s 0.2 -f --pid=$prover "$log")
-    part "proving $crates crates" $at $cores
-    part "$edits must-fail edits, the stored frames" $((SECONDS - began - at)) $((used - cores))
+    part "$crates crates, $edits must-fail edits, the stored frames" $((SECONDS - began)) $used
     wait $prover
 }
 
@@ -75,11 +74,11 @@ side_by_side() {
 show_times() {
     local i clock=0 cores=0
     echo
-    printf '%-46s %10s %14s\n' "time by part" seconds core-seconds
+    printf '%-56s %10s %14s\n' "time by part" seconds core-seconds
     for i in "${!part_names[@]}"; do
-        printf '%-46s %10d %14d\n' "${part_names[i]}" "${part_clock[i]}" "${part_cores[i]}"
+        printf '%-56s %10d %14d\n' "${part_names[i]}" "${part_clock[i]}" "${part_cores[i]}"
         clock=$((clock + part_clock[i])) cores=$((cores + part_cores[i]))
     done
-    printf '%-46s %10d %14d\n' "whole, on $(nproc) cores of $(uname -m)" $clock $cores
+    printf '%-56s %10d %14d\n' "whole, on $(nproc) cores of $(uname -m)" $clock $cores
     echo
 }

@@ -32,6 +32,6 @@ crates_of() {
             for (k = 1; k <= m; k++) add(a[k])
         }
         { sub(/#.*/, "") }
-        /:/ { uses[substr($0, 1, index($0, ":") - 1)] = substr($0, index($0, ":") + 1) }
+        /:/ { named = substr($0, 1, index($0, ":") - 1); sub(/ .*/, "", named); uses[named] = substr($0, index($0, ":") + 1) }
         END { add(name) }' crates.txt
 }

@@ -16,7 +16,7 @@ for file in crates/promises/proofs/{Refusals,Units,Shells,Separations,Incident,S
         name != "" { text = text " " line }
         END { tell() }' "$file"
 done
-for file in crates/contactlib/src/*.rt; do
+for file in crates/contactlib_c/src/*.rt; do
     awk -v file="${file##*/}" '
         /^pub extern "C" fn/ { on = 1; text = "" }
         on && /^{/ { gsub(/[ \t]+/, " ", text); print file ": " text; on = 0 }

@@ -1,4 +1,4 @@
-//! Links the library that `rt staticlib contactlib` writes. Where it cannot be linked, the cause stands in a warning, and
+//! Links the library that `tools/build.sh library` writes. Where it cannot be linked, the cause stands in a warning, and
 //! again where something is built: the crate can then be checked and documented all the same.
 
 use std::env;
@@ -52,7 +52,7 @@ fn library_folder() -> Result<PathBuf, String> {
             folder.display(),
         ),
         None => format!(
-            "there is no {LIBRARY} in {}: run `rt staticlib contactlib` in the repository, or set {FOLDER} to the folder \
+            "there is no {LIBRARY} in {}: run `tools/build.sh library` in the repository, or set {FOLDER} to the folder \
              that has it",
             folder.display(),
         ),

@@ -1,4 +1,4 @@
-//! Links the library that `rt staticlib probes` writes.
+//! Links the library that `tools/build.sh probes` writes.
 
 use std::env;
 use std::path::PathBuf;

@@ -21,7 +21,8 @@ use Rattle.axis_best.proofs.Searches.{begins, goes_on, stays}
 use Rattle.axis_faces.specs.declared.Face.{Face}
 use Rattle.axis_faces.specs.declared.Side.{Side}
 use Rattle.axis_faces.specs.Support.{support_of}
-use Rattle.axis_faces.specs.Faces.{bias_of, direction_of, exact_of, face_axis_of, face_separation_of, farthest_vertex_of, face_taken_of, face_of, face_search_of}
+use Rattle.axis_faces.specs.Faces.{bias_of, direction_of, exact_of, face_axis_of, face_separation_of, farthest_vertex_of, face_taken_of, face_of}
+use Rattle.axis_faces.specs.Faces.{face_search_of}
 use Rattle.axis_faces.specs.inner.Ready.{SupportReady, Facing, FacesReady}
 use Rattle.axis_faces.proofs.Starts.{direction_within, bias_within}
 

@@ -25,7 +25,8 @@ flattest_from s n l normal p best (e ∷ es) = flattest_from s n l normal p (fla
 
 -- the least of the fan of vertex v, from the largest float on; on accepted input a half-edge is always below that (crates/promises/specs/Incident.antt)
 unfoldable pub flattest_of : HullSize → List Float → List ℕ → Vec3 → ℕ → ℕ
-flattest_of s n l normal v = (flattest_from s n l normal (vertex_at s n v) (record { edge = vertex_edge s l v; projection = float 0x7f7f_ffff }) (fan s l v)).edge
+flattest_of s n l normal v = (flattest_from s n l normal (vertex_at s n v) (record { edge = vertex_edge s l v; projection = float 0x7f7f_ffff })
+    (fan s l v)).edge
 
 -- the face with the smaller dot, of half-edge e and its twin
 unfoldable pub lower_face_of : HullSize → List Float → List ℕ → Vec3 → ℕ → ℕ

@@ -28,7 +28,8 @@ use Rattle.collide_outcome.specs.declared.Cached.{Cached}
 use Rattle.collide_cached.specs.declared.ridges.Ridge.{Ridge}
 use Rattle.collide_outcome.specs.Served.{hit_with, no_hit, served_of}
 use Rattle.collide_cached.specs.Ridges.{ridge_of, carried_ridge, crosses_of, axis_between}
-use Rattle.collide_cached.specs.Again.{deepest_below_a, separation_from_a, cached_face_a_of, deepest_below_b, separation_from_b, cached_face_b_of, cached_edge_of}
+use Rattle.collide_cached.specs.Again.{deepest_below_a, separation_from_a, cached_face_a_of, deepest_below_b, separation_from_b, cached_face_b_of}
+use Rattle.collide_cached.specs.Again.{cached_edge_of}
 
 -- ---- an axis, whatever its type: far enough apart is a hit with no points, else it is built anew
 module _ (far : Bool) (unit : ℕ) (cache : SatCache) (b : Built) where

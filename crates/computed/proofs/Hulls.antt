@@ -98,9 +98,12 @@ table =
     ++ both_sides 1000 0x3f7a_0000 0x4a7a_0000 0x4afa_0000))
 
 pub answers : map (λ (r : Row). answer r.hull) table ≡ map (λ (r : Row). r.rule) table
-unfolding known_unit units_per_meter coordinate_limit offset_limit edge_limit ◌&◌ ◌or◌ implies all first_broken has firsts until ring h1 vertex_in_range edge_in_range
-    face_in_range h2 twins_at h3 linked_at h4 new_next h5 ring_holds ring_right h6 fan_holds fan_right h7 box_of vertex_at plane_at inside within_limit near_one apart
-    finite_at small_at in_box vertex_in_box plane_right plane_right_at ends_apart edge_long h8 is_in listed edges_with any leads one_step_on within h9 broken_rule le neg
+unfolding known_unit units_per_meter coordinate_limit offset_limit edge_limit ◌&◌ ◌or◌ implies all first_broken has firsts until ring h1 vertex_in_range
+    edge_in_range
+    face_in_range h2 twins_at h3 linked_at h4 new_next h5 ring_holds ring_right h6 fan_holds fan_right h7 box_of vertex_at plane_at inside within_limit
+    near_one apart
+    finite_at small_at in_box vertex_in_box plane_right plane_right_at ends_apart edge_long h8 is_in listed edges_with any leads one_step_on within h9
+    broken_rule le neg
     of_bits add sub mul
 answers = refl
 
@@ -124,7 +127,9 @@ pyramid_one_shell =
     }) refl refl refl
 
 pub pyramid_right : answer pyramid ≡ 0
-unfolding known_unit units_per_meter coordinate_limit offset_limit edge_limit ◌&◌ ◌or◌ implies all first_broken has firsts until ring h1 vertex_in_range edge_in_range
-    face_in_range h2 twins_at h3 linked_at h4 new_next h5 ring_holds ring_right h6 fan_holds fan_right h7 box_of vertex_at plane_at inside within_limit near_one apart
+unfolding known_unit units_per_meter coordinate_limit offset_limit edge_limit ◌&◌ ◌or◌ implies all first_broken has firsts until ring h1 vertex_in_range
+    edge_in_range
+    face_in_range h2 twins_at h3 linked_at h4 new_next h5 ring_holds ring_right h6 fan_holds fan_right h7 box_of vertex_at plane_at inside within_limit
+    near_one apart
     finite_at small_at in_box vertex_in_box plane_right plane_right_at ends_apart edge_long h8 broken_rule le neg of_bits add sub mul
 pyramid_right = ap (λ (last : Bool). first_broken 9 (last ∷ [])) pyramid_one_shell

@@ -85,13 +85,19 @@ table =
     ∷ []
 
 pub limits : given table ≡ said table
-unfolding known_unit units_per_meter slop speculative huge coordinate_limit offset_limit edge_limit isqrt pattern root_of pattern_of embed_of index_of abs_of min_of
-    max_of add_of sub_of neg_of abs_vec_of dot_of mul_sv_of length_squared_of plane_of center_of extents_of embed_w_of least_of least_w_of lesser_of min_index_of matrix_of transpose_of
+unfolding known_unit units_per_meter slop speculative huge coordinate_limit offset_limit edge_limit isqrt pattern root_of pattern_of embed_of index_of abs_of
+    min_of
+    max_of add_of sub_of neg_of abs_vec_of dot_of mul_sv_of length_squared_of plane_of center_of extents_of embed_w_of least_of least_w_of lesser_of
+    min_index_of matrix_of transpose_of
     mul_mv_of ◌&◌ ◌or◌ implies all any first_broken has firsts until ring h1 vertex_in_range edge_in_range face_in_range h2 twins_at h3 linked_at h4 new_next h5
-    ring_holds ring_right h6 fan_holds fan_right h7 inside within_limit near_one apart in_box plane_right ends_apart transform_right finite_at small_at vertex_in_box
-    plane_right_at edge_long h8 is_in listed edges_with leads one_step_on within h9 broken_rule box_of vertex_at plane_at support_at stops_of better_of support_value_of
-    group_of splat_of least_lanes support_of bias_of direction_of exact_of face_axis_of face_separation_of farthest_vertex_of face_taken_of face_of dot_right difference_of
-    sum_of edge_of_a turned_normal turned_point edge_of_b passes_of parallel_of between_of axis_across_of edge_separation_of tried_of edge_pair_of question_refusal_of is_far
+    ring_holds ring_right h6 fan_holds fan_right h7 inside within_limit near_one apart in_box plane_right ends_apart transform_right finite_at small_at
+    vertex_in_box
+    plane_right_at edge_long h8 is_in listed edges_with leads one_step_on within h9 broken_rule box_of vertex_at plane_at support_at stops_of better_of
+    support_value_of
+    group_of splat_of least_lanes support_of bias_of direction_of exact_of face_axis_of face_separation_of farthest_vertex_of face_taken_of face_of dot_right
+    difference_of
+    sum_of edge_of_a turned_normal turned_point edge_of_b passes_of parallel_of between_of axis_across_of edge_separation_of tried_of edge_pair_of
+    question_refusal_of is_far
     best_through through_faces through_pairs best_of_all largest_separation apart_by_every refused_question answered_question question_of Ieee.size Ieee.of_bits
     to_bits Ieee.lt Ieee.le Ieee.neg Ieee.sub Ieee.div Ieee.add Ieee.mul
 limits = refl

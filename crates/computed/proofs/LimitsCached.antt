@@ -38,7 +38,8 @@ use Rattle.collide_outcome.specs.declared.Built.{Built}
 use Rattle.collide_outcome.specs.declared.Cached.{Cached}
 use Rattle.collide_outcome.specs.Builds.{touched_of}
 use Rattle.collide_outcome.specs.Served.{near_of, served_of}
-use Rattle.collide_cached.specs.Again.{deepest_below_a, separation_from_a, cached_face_a_of, deepest_below_b, separation_from_b, cached_face_b_of, cached_edge_of}
+use Rattle.collide_cached.specs.Again.{deepest_below_a, separation_from_a, cached_face_a_of, deepest_below_b, separation_from_b, cached_face_b_of}
+use Rattle.collide_cached.specs.Again.{cached_edge_of}
 use Rattle.collide_cached.specs.Ridges.{ridge_of, carried_ridge, cross_over, wide_of, crosses_of, axis_between}
 use Rattle.collide_full.specs.Full.{tries_edge, pair_contact, instead_of}
 use Rattle.computed.proofs.Rows.{Row, is, yes, no, given, said, bits, vec}
@@ -183,14 +184,21 @@ table =
     ∷ (both_sides 10 0x3d4c_cccc 0x3e4c_cccc ++ (both_sides 100 0x3f00_0000 0x4000_0000 ++ both_sides 1000 0x40a0_0000 0x41a0_0000))
 
 pub limits : given table ≡ said table
-unfolding units_per_meter slop speculative isqrt pattern root_of abs_of min_of max_of add_of sub_of neg_of dot_of cross_of length_squared_of mul_sv_of mul_add_of mul_sub_of
-    lerp_of normalize_of plane_separation_of plane_of farther_of farthest_of support_vertex_of arbitrary_perp_of line_distance_of is_fraction_of is_within_segments_of
-    matrix_of mul_mv_of rotate_of inv_rotate_of transform_point_of inv_transform_point_of invert_of owner_of pair_of flip_of turns until ring vertex_at plane_at support_at
-    meeting_of leaving_of entering_of put_out_of cut_from last_of cut_of projection_of flatter_of flattest_from flattest_of lower_face_of incident_face_of tagged_of corner_of
-    built_of side_plane_of cut_on goes_on cut_round candidates_of image_of least_separation_of touching_of better_pick_of as_good_of reach_of first_turn across_of spread_of
+unfolding units_per_meter slop speculative isqrt pattern root_of abs_of min_of max_of add_of sub_of neg_of dot_of cross_of length_squared_of mul_sv_of
+    mul_add_of mul_sub_of
+    lerp_of normalize_of plane_separation_of plane_of farther_of farthest_of support_vertex_of arbitrary_perp_of line_distance_of is_fraction_of
+    is_within_segments_of
+    matrix_of mul_mv_of rotate_of inv_rotate_of transform_point_of inv_transform_point_of invert_of owner_of pair_of flip_of turns until ring vertex_at
+    plane_at support_at
+    meeting_of leaving_of entering_of put_out_of cut_from last_of cut_of projection_of flatter_of flattest_from flattest_of lower_face_of incident_face_of
+    tagged_of corner_of
+    built_of side_plane_of cut_on goes_on cut_round candidates_of image_of least_separation_of touching_of better_pick_of as_good_of reach_of first_turn
+    across_of spread_of
     signed_area_of side_of outside_of triangle_of without taken first_best second_best third_best fourth_best fourth_picks third_picks second_picks first_picks
-    all_or_picked points_of point_of placed_from normal_of contact_of images_on picks_on carried_of contact_on_a contact_on_b on_face face_a_of face_b_of edge_point along_of
-    nearest_of edge_contact_of touched_of near_of served_of deepest_below_a separation_from_a cached_face_a_of deepest_below_b separation_from_b cached_face_b_of cached_edge_of
+    all_or_picked points_of point_of placed_from normal_of contact_of images_on picks_on carried_of contact_on_a contact_on_b on_face face_a_of face_b_of
+    edge_point along_of
+    nearest_of edge_contact_of touched_of near_of served_of deepest_below_a separation_from_a cached_face_a_of deepest_below_b separation_from_b
+    cached_face_b_of cached_edge_of
     ridge_of carried_ridge cross_over wide_of crosses_of axis_between tries_edge pair_contact instead_of Ieee.size Ieee.of_bits to_bits Ieee.lt Ieee.le Ieee.neg
     Ieee.sub Ieee.div Ieee.add Ieee.mul
 limits = refl

@@ -14,7 +14,8 @@ use Rattle.units.specs.Limits.{slop, speculative, huge, coordinate_limit, offset
 use Rattle.vector.specs.declared.Transform.{Transform}
 use Rattle.vector.specs.Rounded.{float}
 use Rattle.vector.specs.Scalar.{abs_of, min_of, max_of}
-use Rattle.vector.specs.Arithmetic.{add_of, sub_of, neg_of, abs_vec_of, dot_of, cross_of, length_squared_of, mul_sv_of, mul_add_of, mul_sub_of, lerp_of, normalize_of}
+use Rattle.vector.specs.Arithmetic.{add_of, sub_of, neg_of, abs_vec_of, dot_of, cross_of, length_squared_of, mul_sv_of, mul_add_of, mul_sub_of, lerp_of}
+use Rattle.vector.specs.Arithmetic.{normalize_of}
 use Rattle.vector.specs.Shape.{plane_separation_of, plane_of, center_of, extents_of, farther_of, farthest_of, support_vertex_of}
 use Rattle.lanes.specs.Lanes.{embed_w_of, least_of, least_w_of, lesser_of, min_index_of}
 use Rattle.rotation.specs.Rotation.{matrix_of, transpose_of, mul_mv_of, rotate_of, inv_rotate_of, transform_point_of, inv_transform_point_of, invert_of}
@@ -33,7 +34,8 @@ use Rattle.hull_shell.specs.Shell.{is_in, listed, edges_with, leads, one_step_on
 use Rattle.hull.specs.Numbers.{box_of, vertex_at, plane_at, support_at}
 use Rattle.axis_best.specs.Leads.{stops_of, better_of, lead_after}
 use Rattle.axis_faces.specs.Support.{support_value_of, group_of, splat_of, least_lanes, support_of}
-use Rattle.axis_faces.specs.Faces.{bias_of, direction_of, exact_of, face_axis_of, face_separation_of, farthest_vertex_of, face_taken_of, face_of, face_search_of}
+use Rattle.axis_faces.specs.Faces.{bias_of, direction_of, exact_of, face_axis_of, face_separation_of, farthest_vertex_of, face_taken_of, face_of}
+use Rattle.axis_faces.specs.Faces.{face_search_of}
 use Rattle.axis_edges.specs.Edges.{dot_right, difference_of, sum_of, edge_of_a, turned_normal, turned_point, edge_of_b, passes_of, parallel_of, between_of}
 use Rattle.axis_edges.specs.Edges.{axis_across_of, edge_separation_of}
 use Rattle.axis_edges.specs.Edges.{tried_of, edge_pair_of, row_pairs}
@@ -48,7 +50,8 @@ use Rattle.contacts.specs.Faces.{on_face, face_a_of, face_b_of}
 use Rattle.collide_outcome.specs.Answers.{retired_of, answer_of}
 use Rattle.collide_outcome.specs.Served.{near_of, served_of}
 use Rattle.collide_refusals.specs.Refusals.{first_half, cache_right, refusal_of}
-use Rattle.collide_cached.specs.Again.{deepest_below_a, separation_from_a, cached_face_a_of, deepest_below_b, separation_from_b, cached_face_b_of, cached_edge_of}
+use Rattle.collide_cached.specs.Again.{deepest_below_a, separation_from_a, cached_face_a_of, deepest_below_b, separation_from_b, cached_face_b_of}
+use Rattle.collide_cached.specs.Again.{cached_edge_of}
 use Rattle.collide_cached.specs.Ridges.{ridge_of, carried_ridge, cross_over, wide_of, crosses_of, axis_between}
 use Rattle.collide_full.specs.Full.{apart_built, contact_a, contact_b, winner_contact, with_edge, found_contact, after_search, full_of}
 use Rattle.collide.specs.Call.{after_cached, worked_of, collide_of}
@@ -211,18 +214,30 @@ table =
     ∷ []
 
 pub limits : given table ≡ said table
-unfolding known_unit units_per_meter slop speculative huge coordinate_limit offset_limit edge_limit isqrt pattern root_of pattern_of embed_of index_of abs_of min_of
-    max_of add_of sub_of neg_of abs_vec_of dot_of cross_of length_squared_of mul_sv_of mul_add_of mul_sub_of lerp_of normalize_of plane_separation_of plane_of center_of extents_of
-    farther_of farthest_of support_vertex_of embed_w_of least_of least_w_of lesser_of min_index_of matrix_of transpose_of mul_mv_of rotate_of inv_rotate_of transform_point_of
-    inv_transform_point_of invert_of owner_of pair_of turns ◌&◌ ◌or◌ implies all first_broken has firsts until ring h1 vertex_in_range edge_in_range face_in_range h2
-    twins_at h3 linked_at h4 new_next h5 ring_holds ring_right h6 fan_holds fan_right h7 inside within_limit near_one apart in_box plane_right ends_apart transform_right
-    finite_at small_at vertex_in_box plane_right_at edge_long h8 is_in listed edges_with any leads one_step_on within h9 broken_rule box_of vertex_at plane_at support_at
-    stops_of better_of lead_after support_value_of group_of splat_of least_lanes support_of bias_of direction_of exact_of face_axis_of face_separation_of farthest_vertex_of
-    face_taken_of face_of face_search_of dot_right difference_of sum_of edge_of_a turned_normal turned_point edge_of_b passes_of parallel_of between_of axis_across_of
-    edge_separation_of tried_of edge_pair_of row_pairs all_pairs axis_of apart_of edge_of found_of search_answer_of side_of_a side_of_b pairs_of search_of cache_of put_out_of
-    cut_from last_of cut_of projection_of flatter_of flattest_from flattest_of lower_face_of incident_face_of tagged_of corner_of built_of side_plane_of cut_on goes_on
+unfolding known_unit units_per_meter slop speculative huge coordinate_limit offset_limit edge_limit isqrt pattern root_of pattern_of embed_of index_of abs_of
+    min_of
+    max_of add_of sub_of neg_of abs_vec_of dot_of cross_of length_squared_of mul_sv_of mul_add_of mul_sub_of lerp_of normalize_of plane_separation_of plane_of
+    center_of extents_of
+    farther_of farthest_of support_vertex_of embed_w_of least_of least_w_of lesser_of min_index_of matrix_of transpose_of mul_mv_of rotate_of inv_rotate_of
+    transform_point_of
+    inv_transform_point_of invert_of owner_of pair_of turns ◌&◌ ◌or◌ implies all first_broken has firsts until ring h1 vertex_in_range edge_in_range
+    face_in_range h2
+    twins_at h3 linked_at h4 new_next h5 ring_holds ring_right h6 fan_holds fan_right h7 inside within_limit near_one apart in_box plane_right ends_apart
+    transform_right
+    finite_at small_at vertex_in_box plane_right_at edge_long h8 is_in listed edges_with any leads one_step_on within h9 broken_rule box_of vertex_at plane_at
+    support_at
+    stops_of better_of lead_after support_value_of group_of splat_of least_lanes support_of bias_of direction_of exact_of face_axis_of face_separation_of
+    farthest_vertex_of
+    face_taken_of face_of face_search_of dot_right difference_of sum_of edge_of_a turned_normal turned_point edge_of_b passes_of parallel_of between_of
+    axis_across_of
+    edge_separation_of tried_of edge_pair_of row_pairs all_pairs axis_of apart_of edge_of found_of search_answer_of side_of_a side_of_b pairs_of search_of
+    cache_of put_out_of
+    cut_from last_of cut_of projection_of flatter_of flattest_from flattest_of lower_face_of incident_face_of tagged_of corner_of built_of side_plane_of cut_on
+    goes_on
     cut_round candidates_of least_separation_of touching_of on_face face_a_of face_b_of retired_of answer_of near_of served_of first_half cache_right refusal_of
-    deepest_below_a separation_from_a cached_face_a_of deepest_below_b separation_from_b cached_face_b_of cached_edge_of ridge_of carried_ridge cross_over wide_of crosses_of
-    axis_between apart_built contact_a contact_b winner_contact with_edge found_contact after_search full_of after_cached worked_of collide_of Ieee.size Ieee.of_bits
+    deepest_below_a separation_from_a cached_face_a_of deepest_below_b separation_from_b cached_face_b_of cached_edge_of ridge_of carried_ridge cross_over
+    wide_of crosses_of
+    axis_between apart_built contact_a contact_b winner_contact with_edge found_contact after_search full_of after_cached worked_of collide_of Ieee.size
+    Ieee.of_bits
     to_bits Ieee.lt Ieee.le Ieee.neg Ieee.sub Ieee.div Ieee.add Ieee.mul
 limits = refl

@@ -30,7 +30,8 @@ use Rattle.clip_incident.specs.Incident.{flatter_of, lower_face_of}
 use Rattle.clip.specs.Candidates.{built_of, goes_on}
 use Rattle.reduce_scores.specs.declared.Best.{Best}
 use Rattle.reduce_scores.specs.Images.{image_of, least_separation_of, touching_of}
-use Rattle.reduce_scores.specs.Scores.{bias, better_pick_of, as_good_of, reach_of, first_turn, across_of, spread_of, signed_area_of, side_of, outside_of, triangle_of}
+use Rattle.reduce_scores.specs.Scores.{bias, better_pick_of, as_good_of, reach_of, first_turn, across_of, spread_of, signed_area_of, side_of, outside_of}
+use Rattle.reduce_scores.specs.Scores.{triangle_of}
 use Rattle.reduce.specs.Reduce.{without, standing, taken, first_best, second_best, third_best, fourth_best, tolerance, fourth_picks, third_picks, second_picks}
 use Rattle.reduce.specs.Reduce.{first_picks, all_or_picked, points_of, numbered, places_of}
 use Rattle.reduce_points.specs.Points.{point_of, placed_from, placed, normal_of, contact_of}
@@ -212,8 +213,11 @@ table =
 pub limits : given table ≡ said table
 unfolding units_per_meter slop speculative abs_of min_of max_of add_of sub_of neg_of dot_of cross_of length_squared_of mul_add_of mul_sub_of plane_separation_of
     matrix_of mul_mv_of flip_of turns until ring vertex_at plane_at laid meeting_of leaving_of entering_of put_out_of flatter_of
-    lower_face_of built_of goes_on image_of least_separation_of touching_of better_pick_of as_good_of reach_of first_turn across_of spread_of signed_area_of side_of outside_of
-    triangle_of without standing taken first_best second_best third_best fourth_best fourth_picks third_picks second_picks first_picks all_or_picked points_of numbered
-    places_of point_of placed_from normal_of contact_of arbitrary_perp_of images_on picks_on carried_of contact_on_a contact_on_b on_face touched_of Ieee.size Ieee.of_bits
+    lower_face_of built_of goes_on image_of least_separation_of touching_of better_pick_of as_good_of reach_of first_turn across_of spread_of signed_area_of
+    side_of outside_of
+    triangle_of without standing taken first_best second_best third_best fourth_best fourth_picks third_picks second_picks first_picks all_or_picked points_of
+    numbered
+    places_of point_of placed_from normal_of contact_of arbitrary_perp_of images_on picks_on carried_of contact_on_a contact_on_b on_face touched_of Ieee.size
+    Ieee.of_bits
     to_bits Ieee.lt Ieee.le Ieee.neg Ieee.sub Ieee.div Ieee.add Ieee.mul
 limits = refl

@@ -122,7 +122,8 @@ table =
     ∷ row (header (size_at (9 ∷ 3 ∷ 0xe8 ∷ 0 ∷ 65 ∷ 1 ∷ 0 ∷ 0 ∷ 65 ∷ []) 1)) (1000 ∷ 65 ∷ 256 ∷ 65 ∷ [])
     ∷ row (header (size_at (1 ∷ 0 ∷ 0 ∷ 4 ∷ 0 ∷ 12 ∷ 0 ∷ 5 ∷ []) 0)) (256 ∷ 4 ∷ 12 ∷ 5 ∷ [])
     ∷ row (header (size_at (0xff ∷ 0xff ∷ 0 ∷ 0 ∷ 0 ∷ 0 ∷ 0 ∷ 0 ∷ []) 0)) (65535 ∷ 0 ∷ 0 ∷ 0 ∷ [])
-    ∷ is (hull_length (sizes 0 0 0)) 32 ∷ is (hull_length (sizes_at 0 0 0 0)) 32 ∷ is (hull_length (sizes 4 12 4)) 200 ∷ is (hull_length (sizes_at 10 8 24 6)) 334
+    ∷ is (hull_length (sizes 0 0 0)) 32 ∷ is (hull_length (sizes_at 0 0 0 0)) 32 ∷ is (hull_length (sizes 4 12 4)) 200 ∷ is (hull_length (sizes_at 10 8 24 6))
+    334
     ∷ is (hull_length (sizes_at 1000 128 256 128)) 4896 ∷ is (hull_length (sizes_at 65535 128 256 128)) 4896
     ∷ is (links_from (sizes_at 100 0 0 0) 41) 73 ∷ is (links_from (sizes_at 100 5 0 0) 41) 169
     -- a unit of A and of B in a frame of kind 12 asks for no more bytes: its high byte and its low one
@@ -148,7 +149,9 @@ table =
     ∷ []
 
 pub limits : given table ≡ said table
-unfolding known_unit isqrt pattern root_of flip_of ◌&◌ ◌or◌ all first_broken h1 broken_rule refusal_of collide_of answer_bytes signed numbers_of links_of numbers_taken
-    hex_digit digit_value_of digit_of hex_at hex_line byte_of hex_of call_of root_answer flipped_answer flip_answer call_answer frame_answer answered_of line_answer told
+unfolding known_unit isqrt pattern root_of flip_of ◌&◌ ◌or◌ all first_broken h1 broken_rule refusal_of collide_of answer_bytes signed numbers_of links_of
+    numbers_taken
+    hex_digit digit_value_of digit_of hex_at hex_line byte_of hex_of call_of root_answer flipped_answer flip_answer call_answer frame_answer answered_of
+    line_answer told
     told_last Ieee.size Ieee.of_bits to_bits Ieee.lt Ieee.le Ieee.neg Ieee.sub Ieee.div Ieee.add Ieee.mul Written.table
 limits = refl

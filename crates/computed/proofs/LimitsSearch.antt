@@ -149,8 +149,11 @@ table =
     ∷ []
 
 pub limits : given table ≡ said table
-unfolding units_per_meter slop speculative huge pattern_of embed_of index_of max_of dot_of length_squared_of farther_of farthest_of support_vertex_of embed_w_of least_of
-    least_w_of lesser_of min_index_of vertex_at stops_of better_of lead_after support_value_of group_of splat_of least_lanes support_of dot_right passes_of parallel_of
-    at_least_eps fails_first fails_later axis_of apart_of edge_of found_of search_answer_of Ieee.size Ieee.of_bits to_bits Ieee.lt Ieee.le Ieee.neg Ieee.sub Ieee.div
+unfolding units_per_meter slop speculative huge pattern_of embed_of index_of max_of dot_of length_squared_of farther_of farthest_of support_vertex_of
+    embed_w_of least_of
+    least_w_of lesser_of min_index_of vertex_at stops_of better_of lead_after support_value_of group_of splat_of least_lanes support_of dot_right passes_of
+    parallel_of
+    at_least_eps fails_first fails_later axis_of apart_of edge_of found_of search_answer_of Ieee.size Ieee.of_bits to_bits Ieee.lt Ieee.le Ieee.neg Ieee.sub
+    Ieee.div
     Ieee.add Ieee.mul
 limits = refl

@@ -149,9 +149,13 @@ table =
     ++ rows_at 1000 0x40a0_0000 0x41a0_0000 0x43c8_0000 0x4cbe_bc20 32 0x4a7a_0000 0x4afa_0000 0x3f7a_0000)))
 
 pub limits : given table ≡ said table
-unfolding known_unit units_per_meter slop speculative huge coordinate_limit offset_limit edge_limit isqrt pattern root_of pattern_of embed_of index_of abs_of min_of
-    max_of sub_of dot_of length_squared_of mul_sv_of mul_sub_of normalize_of arbitrary_perp_of embed_w_of least_of least_w_of lesser_of min_index_of turns ◌&◌ ◌or◌ inside
-    within_limit near_one apart plane_right ends_apart transform_right vertex_at stops_of better_of support_value_of group_of splat_of least_lanes support_of image_of
-    least_separation_of touching_of better_pick_of reach_of first_turn without first_best second_best second_picks first_picks images_on picks_on on_face touched_of near_of
+unfolding known_unit units_per_meter slop speculative huge coordinate_limit offset_limit edge_limit isqrt pattern root_of pattern_of embed_of index_of abs_of
+    min_of
+    max_of sub_of dot_of length_squared_of mul_sv_of mul_sub_of normalize_of arbitrary_perp_of embed_w_of least_of least_w_of lesser_of min_index_of turns ◌&◌
+    ◌or◌ inside
+    within_limit near_one apart plane_right ends_apart transform_right vertex_at stops_of better_of support_value_of group_of splat_of least_lanes support_of
+    image_of
+    least_separation_of touching_of better_pick_of reach_of first_turn without first_best second_best second_picks first_picks images_on picks_on on_face
+    touched_of near_of
     served_of tries_edge Ieee.size Ieee.of_bits to_bits Ieee.lt Ieee.le Ieee.neg Ieee.sub Ieee.div Ieee.add Ieee.mul
 limits = refl

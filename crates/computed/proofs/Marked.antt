@@ -100,6 +100,8 @@ table =
     ∷ []
 
 pub marked : given table ≡ said table
-unfolding units_per_meter huge root_of pattern isqrt Ieee.size Ieee.of_bits to_bits lt embed_w_of pattern_of embed_of index_of lesser_of min_index_of flip_of Ieee.add
-    Ieee.sub Ieee.mul Ieee.div Ieee.neg Ieee.le sub_of dot_of mul_add_of plane_separation_of meeting_of leaving_of entering_of put_out_of cut_from last_of cut_of
+unfolding units_per_meter huge root_of pattern isqrt Ieee.size Ieee.of_bits to_bits lt embed_w_of pattern_of embed_of index_of lesser_of min_index_of flip_of
+    Ieee.add
+    Ieee.sub Ieee.mul Ieee.div Ieee.neg Ieee.le sub_of dot_of mul_add_of plane_separation_of meeting_of leaving_of entering_of put_out_of cut_from last_of
+    cut_of
 marked = refl

@@ -34,5 +34,6 @@ pub record Ended (xs : List ℕ) (e : End) (out : List ℕ) : Type 0 where
   -- what is told of them stands first, and that much is handed to the last write
   pub count : e.ok ≡ true → e.count ≡ length (told_last xs)
   pub told : e.ok ≡ true → take e.count out ≡ told_last xs
-  -- where a write failed nothing further is told
+  -- where a write failed nothing further is told, and the end is no good one
   pub failed : e.ok ≡ false → e.count ≡ 0
+  pub lost : e.ok ≡ false → e.all ≡ false

@@ -1,7 +1,7 @@
 -- "Refusals .. leave the cache's bits, hit included", and give an empty contact. Assumes nothing.
 use Prim.Native.Nat.{ℕ}
 use mathlib.Core.List.{List}
-use mathlib.Core.Path.{◌≡◌, refl}
+use mathlib.Core.Path.{◌≡◌, refl, ap, ◌∙◌}
 use lib.Dec.{eqb}
 use lib.IntN.{ℤ, pos}
 use lib.Signed.{lt_z}
@@ -18,6 +18,7 @@ use Rattle.collide_outcome.specs.declared.Cached.{Cached}
 use Rattle.collide_refusals.specs.Refusals.{refusal_of}
 use Rattle.collide_outcome.specs.Answers.{retired_of, accepted, refused_of, answer_of}
 use Rattle.collide.specs.Call.{after_cached, worked_of, collide_of}
+use Rattle.contactlib.specs.Lent.{Called}
 
 -- an answer that refuses has an empty contact and this cache
 pub record Keeps (c : SatCache) (a : Answer) : Type 0 where
@@ -55,3 +56,12 @@ module _ (c : SatCache) where
     keeps_call capacity =
         picked (Keeps c) (lt_z capacity (pos 4)) (keeps_accepted 0 empty_contact c)
         (picked (Keeps c) (eqb (refusal_of s n l t m k x c) 0) keeps_worked (keeps_refused (refusal_of s n l t m k x c)))
+
+-- the outcome and the cache of the core's answer are what the lent call says
+pub called : (s : HullSize) (n : List Float) (l : List ℕ) (t : HullSize) (m : List Float) (k : List ℕ) (x : Transform) {capacity read : ℤ} {c : SatCache}
+    {r : Answer} → read ≡ capacity → r ≡ collide_of s n l t m k x read c → Called (collide_of s n l t m k x capacity c) c r.outcome r.cache
+called s n l t m k x {capacity} {read} {c} {r} same e = let a = e ∙ ap (λ (i : ℤ). collide_of s n l t m k x i c) same in record {
+  answers = ap (λ (b : Answer). b.outcome) a;
+  updates = ap (λ (b : Answer). b.cache) a;
+  keeps = λ h. ap (λ (b : Answer). b.cache) a ∙ (keeps_call c s n l t m k x capacity).same (λ z. h (ap (λ (b : Answer). b.outcome.status) a ∙ z));
+}

@@ -4,8 +4,7 @@ ghost use Rattle.contactlib.specs.Abi.{abi_number};
 
 pub const ABI: u32 = 7;
 
-#[unsafe(no_mangle)]
-pub extern "C" fn contact_abi() -> u32
+pub fn contact_abi() -> u32
     ensures { result ≡ abi_number }
 {
     ABI

@@ -7,8 +7,7 @@ use hull_links::HullSize;
 use vector::Transform;
 
 // One question. It takes no cache, and requires nothing: a hull or a transform that breaks a rule is refused by its number, and the answer is no.
-#[unsafe(no_mangle)]
-pub extern "C" fn contact_apart(
+pub fn contact_apart(
     numbers_a: &[f32],
     links_a: &[u8],
     size_a: HullSize,

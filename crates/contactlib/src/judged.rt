@@ -5,8 +5,7 @@ ghost use Rattle.hull.specs.Rule8.{broken_rule};
 use hull_links::HullSize;
 
 // The first broken rule, 0 if none, whatever is lent. By it the call refuses: 1 where it is not 0 of hull A, 2 where it is 0 of A and not 0 of B.
-#[unsafe(no_mangle)]
-pub extern "C" fn contact_first_broken_rule(numbers: &[f32], links: &[u8], size: HullSize) -> u8
+pub fn contact_first_broken_rule(numbers: &[f32], links: &[u8], size: HullSize) -> u8
     ensures { result ≡ broken_rule size numbers.now links.now }
 {
     hull::first_broken_rule(numbers, links, size)

@@ -8,8 +8,7 @@ use manifold::{Outcome, SatCache};
 use vector::Transform;
 
 // One call. The cache at exit is the next cache; a refusal leaves every bit of it.
-#[unsafe(no_mangle)]
-pub extern "C" fn contact_collide(
+pub fn contact_collide(
     capacity: i32,
     numbers_a: &[f32],
     links_a: &[u8],

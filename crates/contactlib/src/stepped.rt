@@ -5,8 +5,7 @@ use step::{Step, step_over};
 
 // Every hull is judged once, and its first broken rule noted in `judged`; every pair is answered as `contact_collide` answers it with a capacity of 4.
 // Where a list has no room for that: 21, and nothing is written.
-#[unsafe(no_mangle)]
-pub extern "C" fn contact_step(
+pub fn contact_step(
     numbers: &[f32],
     links: &[u8],
     hulls: &[u32],

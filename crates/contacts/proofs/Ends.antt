@@ -44,4 +44,5 @@ module _ (s : HullSize) (n : List Float) (l : List ℕ) (t : HullSize) (m : List
       (e_n
       ∙ ap₂ (λ (u v : Vec3). line_distance_of p_a u p_b v) e_a e_b
       ∙ ap₂ (λ (p q : Vec3). line_distance_of p (sub_of q p) p_b (sub_of q_b p_b)) e_pa e_qa
-      ∙ ap₂ (λ (p q : Vec3). line_distance_of p_a' (sub_of q_a' p_a') p (sub_of q p)) (e_pb ∙ ap (transform_point_of x) e_vb) (e_qb ∙ ap (transform_point_of x) e_wb))
+      ∙ ap₂ (λ (p q : Vec3). line_distance_of p_a' (sub_of q_a' p_a') p (sub_of q p)) (e_pb ∙ ap (transform_point_of x) e_vb)
+      (e_qb ∙ ap (transform_point_of x) e_wb))

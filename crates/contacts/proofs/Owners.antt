@@ -114,7 +114,8 @@ module _ (s : HullSize) (n : List Float) (l : List ℕ) (t : HullSize) (m : List
       (built_owned t m k x reference (incident_face_of t m k (inv_rotate_of x.q reference.normal) v))
 
   -- no candidate's pair is refused
-  pub candidates_flip : (i : ℕ) → i < length (candidates_of s n l t m k x f v) → (flip_of (get_or (candidates_of s n l t m k x f v) i past_vertex).pair).status ≡ 0
+  pub candidates_flip : (i : ℕ) → i < length (candidates_of s n l t m k x f v) → (flip_of (get_or (candidates_of s n l t m k x f v) i past_vertex).pair).status
+      ≡ 0
   candidates_flip i h = flips (get_or all i past_vertex).pair (owned_at all past_vertex i owned h)
 
   module _ (normal : Vec3) where

@@ -47,7 +47,8 @@ contact_on_b unit x normal candidates =
 unfoldable pub on_face : ℕ → Contact → ℕ → ℕ → ℕ → List ClipVertex → Built
 on_face unit contact kind a b candidates =
     cond (ltb 64 (length candidates)) (refused_at 6)
-    (cond (touching_of (speculative unit) (length candidates) (least_separation_of candidates)) (touched_of contact (least_separation_of candidates) kind a b) missed)
+    (cond (touching_of (speculative unit) (length candidates) (least_separation_of candidates)) (touched_of contact (least_separation_of candidates) kind a b)
+    missed)
 
 -- face f of A, and vertex v of B: hull A is (s, n, l), hull B is (t, m, k), and x places B in A's frame. "5: .. a support vertex not below V (a
 -- padding lane won)"

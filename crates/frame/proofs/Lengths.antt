@@ -75,7 +75,8 @@ unfolding line_answer
 line_long line h = ap hex_of (sym (line_over line h))
 
 -- the characters of an answer's bytes are the line's answer
-pub line_answers : (line : List ℕ) {o m s t : List ℕ} {n : ℕ} → Answers (answered_of line) o n m → Wrote s 0 (hex_of (take n m)) t → longest_line_answer ≤ length s
+pub line_answers : (line : List ℕ) {o m s t : List ℕ} {n : ℕ} → Answers (answered_of line) o n m → Wrote s 0 (hex_of (take n m)) t → longest_line_answer ≤
+    length s
     → Answers (line_answer line) s (2 * n) t
 unfolding line_answer
 line_answers line {n = n} a w l =

@@ -32,5 +32,6 @@ pub record Sized (f : List ℕ) (a : HullSize) (at : ℕ) (b : HullSize) : Type 
 -- the call with what stands in the frame
 unfoldable pub call_of : List ℕ → Answer
 call_of f =
-    collide_of (hull_a f) (numbers_of f 41 (hull_a f)) (links_of f 41 (hull_a f)) (hull_b f) (numbers_of f (begins_b f) (hull_b f)) (links_of f (begins_b f) (hull_b f))
+    collide_of (hull_a f) (numbers_of f 41 (hull_a f)) (links_of f 41 (hull_a f)) (hull_b f) (numbers_of f (begins_b f) (hull_b f))
+    (links_of f (begins_b f) (hull_b f))
     (transform_at f 13) (capacity_at f 1) (cache_at f 5)

@@ -5,7 +5,8 @@ use Rattle.vector.specs.declared.Plane.{Plane}
 use Rattle.vector.specs.declared.Aabb.{Aabb}
 use Rattle.vector.specs.declared.Transform.{Transform}
 use Rattle.vector.specs.Scalar.{min_of, max_of}
-use Rattle.vector.specs.Arithmetic.{add_of, sub_of, neg_of, abs_vec_of, cross_of, mul_sv_of, mul_add_of, mul_sub_of, lerp_of, normalize_of, dot_of, length_squared_of}
+use Rattle.vector.specs.Arithmetic.{add_of, sub_of, neg_of, abs_vec_of, cross_of, mul_sv_of, mul_add_of, mul_sub_of, lerp_of, normalize_of, dot_of}
+use Rattle.vector.specs.Arithmetic.{length_squared_of}
 use Rattle.rotation.specs.Rotation.{matrix_of, transpose_of, mul_mv_of, rotate_of, inv_rotate_of, transform_point_of, inv_transform_point_of, invert_of}
 use Rattle.vector.specs.Shape.{plane_separation_of, plane_of, center_of, extents_of, point_support_of}
 use Rattle.vector.specs.Awaited.{arbitrary_perp_of, line_distance_of, is_within_segments_of}

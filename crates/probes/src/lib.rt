@@ -1,6 +1,8 @@
 // What the runs and the benchmarks of host/ link: a door to each layer, thin. What hosts of the routine link is another library. A probe of several
 // helpers answers them all in one record, so that one call tries a whole layer. The doors to the axis search are in axes.rt, to the cuts and picks in
 // cuts.rt.
+#![tactic(auto)]
+
 pub mod axes;
 pub mod cuts;
 

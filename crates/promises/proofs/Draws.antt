@@ -243,7 +243,8 @@ module _ (s : HullSize) (n : List Float) (l : List ℕ) (t : HullSize) (m : List
       (λ p. rw p (draws_with w _ edge (makes_winner a b (eqb-true _ _ p))))
       (λ p. absurd (eqb-false _ _ p (rw p at q)))
 
-  draws_search : (search : Search) → (after_search s n l t m k x search).status ≡ 0 → Draws (after_search s n l t m k x search) (search_source s n l t m k x search)
+  draws_search : (search : Search) → (after_search s n l t m k x search).status ≡ 0 → Draws (after_search s n l t m k x search)
+      (search_source s n l t m k x search)
   unfolding after_search apart_built search_source
   draws_search (Search.Apart a) q = of_none apart
   draws_search (Search.Found f) q = draws_found f.face_a f.face_b f.edge q

@@ -38,7 +38,8 @@ use Rattle.contacts.specs.EdgePairs.{nearest_of, along_of, edge_contact_of}
 use Rattle.collide_outcome.specs.declared.Cached.{Cached}
 use Rattle.collide_cached.specs.Ridges.{ridge_of, carried_ridge, crosses_of, axis_between}
 use Rattle.collide_outcome.specs.Served.{near_of, served_of}
-use Rattle.collide_cached.specs.Again.{deepest_below_a, separation_from_a, cached_face_a_of, deepest_below_b, separation_from_b, cached_face_b_of, cached_edge_of}
+use Rattle.collide_cached.specs.Again.{deepest_below_a, separation_from_a, cached_face_a_of, deepest_below_b, separation_from_b, cached_face_b_of}
+use Rattle.collide_cached.specs.Again.{cached_edge_of}
 use Rattle.collide_full.specs.Full.{apart_built, tries_edge, pair_contact, contact_a, contact_b, winner_contact, instead_of, with_edge, found_contact}
 use Rattle.collide_full.specs.Full.{after_search, full_of}
 use Rattle.collide_refusals.specs.Refusals.{refusal_of}
@@ -144,7 +145,8 @@ module _ (s : HullSize) (n : List Float) (l : List ℕ) (t : HullSize) (m : List
 
   cached_b : (cache : SatCache) → 0 < s.vertices → let f = cache.index_b in
       OfCached (cached_face_b_of s n l t m k x cache)
-      (cond (Ieee.le (speculative s.unit) (separation_from_b s n t m x f)) 0 (cut_meets (candidates_of t m k s n l (invert_of x) f (deepest_below_b s n t m x f))))
+      (cond (Ieee.le (speculative s.unit) (separation_from_b s n t m x f)) 0 (cut_meets (candidates_of t m k s n l (invert_of x) f
+      (deepest_below_b s n t m x f))))
   unfolding cached_face_b_of face_meets
   cached_b cache some =
       choice OfCached (Ieee.le (speculative s.unit) (separation_from_b s n t m x cache.index_b)) _ refl (λ h. refl)

@@ -11,7 +11,8 @@ use Rattle.hull_links.specs.declared.HullSize.{HullSize}
 use Rattle.clip.specs.Candidates.{candidates_of}
 use Rattle.axis.specs.declared.Search.{Search}
 use Rattle.axis.specs.Search.{search_of}
-use Rattle.collide_cached.specs.Again.{deepest_below_a, deepest_below_b, separation_from_a, separation_from_b, cached_face_a_of, cached_face_b_of, cached_edge_of}
+use Rattle.collide_cached.specs.Again.{deepest_below_a, deepest_below_b, separation_from_a, separation_from_b, cached_face_a_of, cached_face_b_of}
+use Rattle.collide_cached.specs.Again.{cached_edge_of}
 use Rattle.collide_refusals.specs.Refusals.{refusal_of}
 
 -- the first of two numbers that is given; 0 is none

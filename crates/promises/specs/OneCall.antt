@@ -18,7 +18,8 @@ use Rattle.collide_cached.specs.declared.ridges.Ridge.{Ridge}
 use Rattle.collide_cached.specs.Ridges.{ridge_of, carried_ridge, crosses_of, axis_between}
 use Rattle.collide_cached.specs.Again.{deepest_below_a, separation_from_a, deepest_below_b, separation_from_b}
 use Rattle.promises.specs.Numbers.{number_of}
-use Rattle.promises.specs.Sources.{Source, small_capacity, refused, apart, face_a_lem, face_b_lem, edges, none, places_from, touches, if_touching, separation_from}
+use Rattle.promises.specs.Sources.{Source, small_capacity, refused, apart, face_a_lem, face_b_lem, edges, none, places_from, touches, if_touching}
+use Rattle.promises.specs.Sources.{separation_from}
 
 -- "face A wins only if strictly above face B"
 unfoldable pub winner_of : Axis → Axis → Source
