@@ -1,5 +1,7 @@
 // The numbers of a hull: its box, vertices and planes by value, and the validator, which tells the first broken rule of H1 to H9.
 // What the rules say is in specs/Rule8.antt and in the specs of `hull_links` and `hull_shell`; what acceptance gives to others is in specs/Accepted.antt.
+#![tactic(auto)]
+
 pub mod rule8;
 
 ghost use Rattle.std.specs.Prelude.{◌≡◌, ◌<◌};

@@ -1,5 +1,7 @@
 // The tests of H8 against a limit, on one number, point or plane at a time: without a branch, so that passes over lists of numbers go four at a time.
 // What each says is in specs/Measures.antt. Limits go by the unit, so whoever goes over a list works them out once.
+#![tactic(auto)]
+
 pub mod transform;
 
 ghost use Rattle.std.specs.Prelude.{◌≡◌};

@@ -1,4 +1,6 @@
 // Marks of the numbers below 256, one bit each, in four words: what a walk has met.
+#![tactic(auto)]
+
 ghost use Rattle.std.specs.Prelude.{◌≡◌, ◌<◌};
 ghost use Rattle.hull_marks.specs.inner.Marks.{mark_of, no_marks, is_marked, with_mark};
 

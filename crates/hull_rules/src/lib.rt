@@ -1,5 +1,7 @@
 // Whether a hull keeps H1, and which of H2 to H7 it breaks first. Two tours accept a hull: once along every ring and once along every fan. Only where one of
 // them fails are H2 to H5 gone through to name the rule; if none of these is broken, it is the rule of that tour.
+#![tactic(auto)]
+
 pub mod tests;
 
 ghost use Rattle.std.specs.Prelude.{◌≡◌};

@@ -6,7 +6,7 @@ use Prim.Native.Nat.{ℕ, zero, suc, ◌+◌, ◌-◌, ◌<◌}
 use native.Mathlib.Omega.{arith}
 use lib.ListN.{length}
 use Rattle.hull_links.specs.declared.HullSize.{HullSize}
-use Rattle.hull_links.specs.Walks.{ring, steps, Closes}
+use Rattle.hull_links.specs.Walks.{steps, Closes}
 use Rattle.hull_links.specs.Links.{next, face, face_edge, face_ring}
 use Rattle.hull_links.specs.Rules.{h6, Linked}
 use Rattle.hull_links.proofs.Orbits.{steps_add, place, comes_back, closes}

@@ -1,5 +1,7 @@
 // H9: whether a hull that breaks none of H2 to H6 is one closed shell. A flood over the faces: a face is entered by one of its half-edges, its ring is gone
 // round, and the face across each half-edge is entered where it was not before. It ends when all faces are entered, or when no ring is left to go round.
+#![tactic(auto)]
+
 ghost use Rattle.std.specs.Prelude.{true, ◌≡◌, ◌<◌, length};
 ghost use Rattle.hull_links.specs.Rules.{h6, Linked};
 ghost use Rattle.hull_marks.specs.inner.Marks.{mark_of};

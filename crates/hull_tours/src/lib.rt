@@ -1,6 +1,8 @@
 // Two tours of a hull's links, one along every ring and one along every fan, which together accept a hull. Each walk tests what it passes, and all
 // walks share one count of the half-edges that are left: walks of different faces have no half-edge in common, so where they are as long together as
 // there are half-edges, every half-edge was passed and tested, once.
+#![tactic(auto)]
+
 ghost use Rattle.std.specs.Prelude.{true, ◌≡◌, ◌+◌, ◌-◌, ◌*◌, ◌<◌, ◌≤◌};
 ghost use Rattle.hull_links.specs.Links.{next, twin, origin, turn, LinksFit};
 ghost use Rattle.hull_tours.specs.inner.Found.{Length, OnFace, OnVertex, Ringed, Fanned};

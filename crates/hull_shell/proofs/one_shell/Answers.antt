@@ -1,6 +1,6 @@
 -- The queue's loop keeps `Flooding`; in the end all faces are entered, or nothing is left in the queue.
 use mathlib.Core.Path.{sym}
-use Prim.Native.Nat.{ℕ, ◌-◌, ◌<◌}
+use Prim.Native.Nat.{ℕ, ◌<◌}
 use native.Mathlib.Omega.{arith}
 use lib.ListN.{length-replicate, replicate}
 use Rattle.hull_links.proofs.Facts.{edge_in}

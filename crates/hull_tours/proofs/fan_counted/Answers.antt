@@ -1,6 +1,6 @@
 -- The walk is under way: n - fanned steps are done, all from vertex v and with the right twin, and it is not back at its start; so fewer than H are done.
 use mathlib.Core.Path.{◌≡◌, refl, sym, ap, ◌∙◌, subst}
-use Prim.Native.Nat.{ℕ, ◌<◌, ◌-◌}
+use Prim.Native.Nat.{ℕ, ◌<◌}
 use native.Mathlib.Omega.{arith}
 use lib.Bits.{bit_xor}
 use mathlib.Core.List.{List}

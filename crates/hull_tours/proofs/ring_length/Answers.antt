@@ -1,6 +1,5 @@
 -- The walk is under way: n steps are done, all on face f, and it is not back at its start.
 use mathlib.Core.Path.{sym, ◌∙◌}
-use Prim.Native.Nat.{◌-◌}
 use native.Mathlib.Omega.{arith}
 use borrow.Author.Rules.{rules}
 use Rattle.hull_links.proofs.Orbits.{sets_out, goes_on, arrives, outlasts, spoils}

@@ -1,7 +1,6 @@
 -- The rings of the faces before the one at hand were walked, and their half-edges counted.
 use mathlib.Core.Path.{refl}
-use mathlib.Core.Bool.{true, false≢true}
-use Prim.Native.Nat.{◌-◌}
+use mathlib.Core.Bool.{false≢true}
 use native.Mathlib.Omega.{arith}
 use borrow.Author.Rules.{rules}
 use borrow.Author.Tests.{eqb-true, eq-eqb}

@@ -8,12 +8,12 @@ use Rattle.contacts.proofs.carried.carried.Goals as goal
 
 pub returns-then-contact-eq0 : goal.returns-then-contact-eq0
 unfolding carried_contact
-returns-then-contact-eq0 c = let none : eqb c.args.t2.count 0 ≡ true = eq-eqb _ 0 c.if-contact-eq0.true in
+returns-then-contact-eq0 c = let none : eqb c.args.contact.count 0 ≡ true = eq-eqb _ 0 c.if-contact-eq0.true in
     simp none
 
 pub returns : goal.returns
 unfolding carried_contact
-returns c = let some : eqb c.args.t2.count 0 ≡ false = ne_eqb _ 0
+returns c = let some : eqb c.args.contact.count 0 ≡ false = ne_eqb _ 0
     c.if-contact-eq0.false in
     simp (
       some,

@@ -1,6 +1,5 @@
 -- `edges_long`: before each turn, ok tells whether all edges so far are long.
 use mathlib.Core.Path.{sym}
-use Prim.Native.Nat.{◌-◌}
 use native.Mathlib.Omega.{arith}
 use borrow.Author.Rules.{rules}
 use Rattle.hull_links.proofs.Tests.{all_none, all_and, all_end}

@@ -1,6 +1,5 @@
 -- `numbers_small`: before each turn, ok tells whether all numbers so far are small.
 use mathlib.Core.Path.{sym}
-use Prim.Native.Nat.{◌-◌}
 use native.Mathlib.Omega.{arith}
 use borrow.Author.Rules.{rules}
 use Rattle.hull_links.proofs.Tests.{all_none, all_and, all_end}

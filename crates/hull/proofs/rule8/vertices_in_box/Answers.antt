@@ -1,6 +1,5 @@
 -- `vertices_in_box`: before each turn, ok tells whether all vertices so far are inside the box.
 use mathlib.Core.Path.{sym, ap₂, ◌∙◌}
-use Prim.Native.Nat.{◌-◌}
 use native.Mathlib.Omega.{arith}
 use borrow.Author.Rules.{rules}
 use Rattle.hull_links.proofs.Tests.{all_none, all_and, all_end}

@@ -1,10 +1,7 @@
 -- The half-edges before the one at hand are in range.
 use mathlib.Core.Path.{sym, ◌∙◌}
-use mathlib.Core.Bool.{true}
-use Prim.Native.Nat.{◌-◌}
 use native.Mathlib.Omega.{arith}
 use borrow.Author.Rules.{rules}
-use Rattle.hull_links.specs.Rules.{edge_in_range}
 use Rattle.hull_links.proofs.Tests.{all_none, all_more, all_done, all_fails}
 use Rattle.hull_rules.proofs.tests.edges_in_range.Goals as goal
 

@@ -1,10 +1,8 @@
 -- The half-edges before the one at hand are linked.
 use mathlib.Core.Path.{sym, ◌∙◌}
-use mathlib.Core.Bool.{true}
-use Prim.Native.Nat.{◌-◌}
 use native.Mathlib.Omega.{arith}
 use borrow.Author.Rules.{rules}
-use Rattle.hull_links.specs.Rules.{linked_at, h4}
+use Rattle.hull_links.specs.Rules.{h4}
 use Rattle.hull_links.proofs.Tests.{all_none, all_more, all_done, all_fails}
 use Rattle.hull_rules.proofs.tests.links_right.Goals as goal
 

@@ -1,7 +1,5 @@
 -- The nexts of the half-edges before the one at hand are marked and differ.
 use mathlib.Core.Path.{sym, ◌∙◌}
-use mathlib.Core.Bool.{true}
-use Prim.Native.Nat.{◌-◌}
 use native.Mathlib.Omega.{arith}
 use borrow.Author.Rules.{rules}
 use Rattle.hull_links.specs.Rules.{h5}

@@ -1,7 +1,6 @@
 -- The stored edges before the one at hand are in range.
 use mathlib.Core.Path.{sym, ap}
-use mathlib.Core.Bool.{true}
-use Prim.Native.Nat.{suc, ◌≤◌, ◌<◌, ◌-◌}
+use Prim.Native.Nat.{suc, ◌≤◌, ◌<◌}
 use native.Mathlib.Nat.{le_trans, le_of_eq}
 use native.Mathlib.Omega.{arith}
 use borrow.Author.Rules.{rules}

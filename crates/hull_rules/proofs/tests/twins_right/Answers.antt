@@ -1,10 +1,8 @@
 -- The pairs before the one at hand are each other's twins.
 use mathlib.Core.Path.{sym, ◌∙◌}
-use mathlib.Core.Bool.{true}
-use Prim.Native.Nat.{◌-◌}
 use native.Mathlib.Omega.{arith}
 use borrow.Author.Rules.{rules}
-use Rattle.hull_links.specs.Rules.{twins_at, h3}
+use Rattle.hull_links.specs.Rules.{h3}
 use Rattle.hull_links.proofs.Tests.{all_none, all_more, all_done, all_fails}
 use Rattle.hull_rules.proofs.tests.twins_right.Goals as goal
 
