@@ -1,5 +1,7 @@
 // The best axis that a search has met so far, and when the search stops. The faces of A, the faces of B and the pairs of edges are three searches of
 // this one sort.
+#![tactic(auto)]
+
 ghost use Rattle.std.specs.Prelude.{◌≡◌};
 ghost use Rattle.axis_best.specs.Leads.{none_of, better_of};
 

@@ -148,7 +148,8 @@ module _ (s : HullSize) (n : List Float) (l : List ℕ) where
       let f = (i - planes_from s) / 4 in
       let j = (i - planes_from s) % 4 in
       let e : i ≡ planes_from s + 4 * f + j = omega arith in
-      finite_is (subst (Below 23) (sym (ap (number_at n) e ∙ part_at s n f j (omega arith))) (part_below s (plane_at s n f) (plane_passed p f (omega arith)) j))))
+      finite_is (subst (Below 23) (sym (ap (number_at n) e ∙ part_at s n f j (omega arith)))
+      (part_below s (plane_at s n f) (plane_passed p f (omega arith)) j))))
 
   passes : NumbersFit s n → Passed → h8 s n l ≡ true
   unfolding h8

@@ -11,7 +11,8 @@ use borrow.Author.Tests.{eqb-true, eqb-false, eq-eqb, ltb-true, ltb-false, lt-lt
 use Rattle.hull_links.specs.declared.HullSize.{HullSize}
 use Rattle.hull_links.specs.Walks.{has, firsts}
 use Rattle.hull_links.specs.Links.{next, twin, origin, face, vertex_edge, face_edge, turn, face_ring, fan, LinksFit}
-use Rattle.hull_links.specs.Rules.{vertex_in_range, edge_in_range, face_in_range, twins_at, linked_at, new_next, ring_holds, ring_right, fan_holds, fan_right, h2}
+use Rattle.hull_links.specs.Rules.{vertex_in_range, edge_in_range, face_in_range, twins_at, linked_at, new_next, ring_holds, ring_right, fan_holds, fan_right}
+use Rattle.hull_links.specs.Rules.{h2}
 use Rattle.hull_links.specs.Rules.{h3, h4, h5, h6, h7, broken_links, Linked}
 use Rattle.hull_links.proofs.Tests.{cases, and_intro, implies_intro, all_intro, passes, none_broken}
 use Rattle.hull_links.proofs.Counting.{has_firsts, onto_once}

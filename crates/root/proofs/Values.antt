@@ -165,7 +165,8 @@ units_pos b p = elim (split b 8388608) [
     some : (t : ℕ) → 0 < 8388608 + t
     some t = omega arith
 
-pub of_bits_lem : (x : Float) (b r : ℕ) → of_bits binary32 b ≡ x → 0 < b → b < 2139095040 → T (root_bits (units b * 2 ^ 149) 1 r) → T (is_root x (of_bits binary32 r))
+pub of_bits_lem : (x : Float) (b r : ℕ) → of_bits binary32 b ≡ x → 0 < b → b < 2139095040 → T (root_bits (units b * 2 ^ 149) 1 r) → T
+    (is_root x (of_bits binary32 r))
 of_bits_lem x b r e p h t =
     let below = (facts (units b * 2 ^ 149) 1 r t).hi in
     let written = to_bits-of_bits binary32 r (omega arith) (no_nan r below) in

@@ -15,7 +15,8 @@ use Rattle.vector.specs.declared.Vec3.{Vec3}
 use Rattle.vector.specs.declared.Aabb.{Aabb}
 use Rattle.vector.specs.Rounded.{float}
 use Rattle.vector.specs.Scalar.{abs_of}
-use Rattle.vector.specs.Arithmetic.{add_of, sub_of, neg_of, abs_vec_of, dot_of, cross_of, length_squared_of, mul_sv_of, mul_add_of, mul_sub_of, tiny, normalize_of}
+use Rattle.vector.specs.Arithmetic.{add_of, sub_of, neg_of, abs_vec_of, dot_of, cross_of, length_squared_of, mul_sv_of, mul_add_of, mul_sub_of, tiny}
+use Rattle.vector.specs.Arithmetic.{normalize_of}
 use Rattle.vector.specs.Shape.{center_of, extents_of}
 use Rattle.vector.specs.Bounded.{VecBelow}
 

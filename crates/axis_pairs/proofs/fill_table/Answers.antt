@@ -40,25 +40,25 @@ overflow_add-f c = omega (
 
 pub overflow_add-at : goal.overflow_add-at
 overflow_add-at c = omega (
-      arith,
-      c.loop-f-test.true,
-      c.loop-f.invariant.1.place,
-      mul-le-mul (le_of_lt c.loop-f-test.true) (le_refl c.args.width),
-      mul-le-mul c.requires.0 c.requires.1,
-      c.requires.0,
-      c.requires.1,
-    )
+  arith,
+  c.loop-f-test.true,
+  c.loop-f.invariant.1.place,
+  mul-le-mul (le_of_lt c.loop-f-test.true) (le_refl c.args.width),
+  mul-le-mul c.requires.0 c.requires.1,
+  c.requires.0,
+  c.requires.1,
+)
 
 pub loop-f-smaller : goal.loop-f-smaller
 loop-f-smaller c = omega (arith, c.loop-f-test.true)
 
 pub loop-f-preserved : goal.loop-f-preserved
 loop-f-preserved c = let l = c.loop-f in (
-      omega (arith, c.loop-f-test.true),
-      goes_on c.args.normals.now c.args.directions.now c.args.width _ c.args.faces l.f l.at l.table l.invariant.1
-          c.vector_in.result _ c.vector_in.ensures
-          (fits c.before.before.before.before.before.before) c.fill_row.ensures,
-    )
+  omega (arith, c.loop-f-test.true),
+  goes_on c.args.normals.now c.args.directions.now c.args.width _ c.args.faces l.f l.at l.table l.invariant.1
+      c.vector_in.result _ c.vector_in.ensures
+      (fits c.before.before.before.before.before.before) c.fill_row.ensures,
+)
 
 pub shape_of-table : goal.shape_of-table
 shape_of-table c = c.loop-f.invariant.1.long

@@ -21,7 +21,7 @@ shape_of-table c = c.fill_two_rows.ensures.0
 
 pub returns : goal.returns
 returns c = let fill = c.fill_two_rows.ensures in (
-      fill.0 ∙ c.requires.2,
-      λ z. absurd (false≢true (sym c.if-whole.false ∙ z)),
-      record { row0 = fill.1; row1 = fill.2 },
-    )
+  fill.0 ∙ c.requires.2,
+  λ z. absurd (false≢true (sym c.if-whole.false ∙ z)),
+  record { row0 = fill.1; row1 = fill.2 },
+)

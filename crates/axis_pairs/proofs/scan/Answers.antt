@@ -14,12 +14,12 @@ slice_bounds-fill_whole-end c = c.empty_table-table.ensures
 
 pub fill_whole-whole-requires : goal.fill_whole-whole-requires
 fill_whole-whole-requires c = let p = c.requires.0 in (
-      p.other_in.fit.f_high,
-      omega (arith, c.width_of-width.ensures, p.few, p.edges_in.fit.h_high),
-      p.turned_long,
-      c.requires.1.long,
-      sym c.empty_table-table.ensures,
-    )
+  p.other_in.fit.f_high,
+  omega (arith, c.width_of-width.ensures, p.few, p.edges_in.fit.h_high),
+  p.turned_long,
+  c.requires.1.long,
+  sym c.empty_table-table.ensures,
+)
 
 pub slice_bounds-scan_rows-end : goal.slice_bounds-scan_rows-end
 slice_bounds-scan_rows-end c = sym c.fill_whole-whole.ensures.1

@@ -11,7 +11,8 @@ use Rattle.axis_pairs.proofs.scan_rows.Given as goal
 
 abbrev pub invariant-loop-j : goal.invariant-loop-j
 invariant-loop-j l =
-    (l.j ≤ l.m) × (l.lead ≡ lead_after (λ i. row_pairs l.size.unit (edge_of_a l.size l.numbers l.links) l.n (edge_in l.turned l.points l.size_b l.links_b i) i) none_of l.j)
+    (l.j ≤ l.m) × (l.lead ≡ lead_after (λ i. row_pairs l.size.unit (edge_of_a l.size l.numbers l.links) l.n (edge_in l.turned l.points l.size_b l.links_b i) i)
+    none_of l.j)
     × (l.lead.apart ≡ false) × (length l.along ≡ 128) × (length l.list ≡ 128) × (length l.out ≡ 128) × (length l.table ≡ 1024)
     × (l.whole ≡ true → Table l.turned l.size_b.faces (vector_in l.directions) l.width l.table)
 

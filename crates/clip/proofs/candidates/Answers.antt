@@ -11,7 +11,7 @@ clip_to_face-requires c = let p = c.requires in
 pub returns : goal.returns
 unfolding candidates_of
 returns c = rw (
-      c.find_incident_face-incident.ensures,
-      c.inv_rotate_vector-normal.ensures,
-      c.plane_at-reference.ensures,
-    ) at c.clip_to_face.ensures
+  c.find_incident_face-incident.ensures,
+  c.inv_rotate_vector-normal.ensures,
+  c.plane_at-reference.ensures,
+) at c.clip_to_face.ensures

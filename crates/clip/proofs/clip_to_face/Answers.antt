@@ -127,11 +127,10 @@ loop-size_a-smaller c = let k = c.before.before.before.before.before.before.befo
 
 pub loop-size_a-preserved : goal.loop-size_a-preserved
 unfolding sides_from
-loop-size_a-preserved c = let k = c.before.before.before.before.before.before.before.before.before.before.before.before.before in
-    (
-      round_goes _ _ _ k.requires.0 _ k.requires.2 _ k.face_edge-start.ensures _ _ _ _ _ (turned k.before.before)
-          c.if-kept-gt64.false c.if-kept-lt3.false _
-          c.next_of-e.ensures c.if-e-start.false,
-      ahead_next _ _ _ _ _ _ k.loop-size_a.invariant.1 _ c.next_of-e.ensures
-          c.if-e-start.false _ _ c.next_side-k.ensures,
-    )
+loop-size_a-preserved c = let k = c.before.before.before.before.before.before.before.before.before.before.before.before.before in (
+  round_goes _ _ _ k.requires.0 _ k.requires.2 _ k.face_edge-start.ensures _ _ _ _ _ (turned k.before.before)
+      c.if-kept-gt64.false c.if-kept-lt3.false _
+      c.next_of-e.ensures c.if-e-start.false,
+  ahead_next _ _ _ _ _ _ k.loop-size_a.invariant.1 _ c.next_of-e.ensures
+      c.if-e-start.false _ _ c.next_side-k.ensures,
+)

@@ -10,7 +10,8 @@ use Rattle.clip.proofs.clip_to_face.Given as goal
 
 abbrev pub invariant-loop-size_a : goal.invariant-loop-size_a
 invariant-loop-size_a l =
-    Round l.size_a l.numbers_a l.links_a l.face l.start (cut_round l.size_a l.numbers_a l.links_a l.face (face_ring l.size_a l.links_a l.face) (corners_in l.initial.places l.initial.tags 0 l.initial.n))
+    Round l.size_a l.numbers_a l.links_a l.face l.start (cut_round l.size_a l.numbers_a l.links_a l.face (face_ring l.size_a l.links_a l.face)
+    (corners_in l.initial.places l.initial.tags 0 l.initial.n))
     l.places l.tags l.p l.n l.e
     × Ahead (side_plane_of l.size_a l.numbers_a l.links_a l.reference.normal) (next l.size_a l.links_a) l.start l.sides l.k l.e
 

@@ -54,7 +54,8 @@ loop-v-preserved c = let n = c.before in
       omega arith,
       omega (arith, r.low, p.h_high, l.loop-v.invariant.1, c.if-counted-fanned.false),
       one_walk _ _ _ _ _ _ _ _ _ _ l.loop-v.invariant.2
-          k.vertex_edge-start.ensures r.low (omega (arith, c.if-counted-fanned.false)) (r.found (omega (arith, c.if-counted-fanned.false))) (omega (arith, c.if-counted-fanned.false)),
+          k.vertex_edge-start.ensures r.low (omega (arith, c.if-counted-fanned.false)) (r.found (omega (arith, c.if-counted-fanned.false)))
+          (omega (arith, c.if-counted-fanned.false)),
     )
 
 pub returns : goal.returns

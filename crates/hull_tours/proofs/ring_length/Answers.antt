@@ -28,7 +28,8 @@ returns-then-ahead-start c = let a = c.before in
     let g = b.before in
     let k = g.before in
     let l = k.before.before in
-    let p = on_face _ _ _ _ l.loop-n.invariant.1 _ _ k.face_of.ensures (g.if-face_of-face.false ∙ l.wide-face.ensures) b.next_of-ahead.ensures a.if-ahead-h.false in
+    let p = on_face _ _ _ _ l.loop-n.invariant.1 _ _ k.face_of.ensures (g.if-face_of-face.false ∙ l.wide-face.ensures) b.next_of-ahead.ensures
+    a.if-ahead-h.false in
     is_length _ _ _ _ _ (omega arith) (arrives _ _ _ _ _ l.loop-n.invariant.2 _ p b.next_of-ahead.ensures c.if-ahead-start.true)
 
 pub loop-n-smaller : goal.loop-n-smaller

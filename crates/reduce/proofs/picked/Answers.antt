@@ -37,79 +37,98 @@ use Rattle.reduce.proofs.picked.Reads
 
 -- the place itself
 abbrev AfterStanding2Place3 : Type 0
-AfterStanding2Place3 = Lts.After-standing22 Tie.the-claims Reads.Pre Reads.Post goal.the-invariant-loop-i goal.the-decreases-loop-i goal.the-invariant-loop-i2 goal.the-decreases-loop-i2 goal.the-invariant-loop-i3 goal.the-decreases-loop-i3 goal.the-invariant-loop-i4 goal.the-decreases-loop-i4
+AfterStanding2Place3 = Lts.After-standing22 Tie.the-claims Reads.Pre Reads.Post goal.the-invariant-loop-i goal.the-decreases-loop-i goal.the-invariant-loop-i2
+    goal.the-decreases-loop-i2 goal.the-invariant-loop-i3 goal.the-decreases-loop-i3 goal.the-invariant-loop-i4 goal.the-decreases-loop-i4
 
 -- the place itself
 abbrev AfterStanding3Place4 : Type 0
-AfterStanding3Place4 = Lts.After-standing32 Tie.the-claims Reads.Pre Reads.Post goal.the-invariant-loop-i goal.the-decreases-loop-i goal.the-invariant-loop-i2 goal.the-decreases-loop-i2 goal.the-invariant-loop-i3 goal.the-decreases-loop-i3 goal.the-invariant-loop-i4 goal.the-decreases-loop-i4
+AfterStanding3Place4 = Lts.After-standing32 Tie.the-claims Reads.Pre Reads.Post goal.the-invariant-loop-i goal.the-decreases-loop-i goal.the-invariant-loop-i2
+    goal.the-decreases-loop-i2 goal.the-invariant-loop-i3 goal.the-decreases-loop-i3 goal.the-invariant-loop-i4 goal.the-decreases-loop-i4
 
 -- the place itself
 abbrev ElseNotThird : Type 0
-ElseNotThird = Lts.Else3 Tie.the-claims Reads.Pre Reads.Post goal.the-invariant-loop-i goal.the-decreases-loop-i goal.the-invariant-loop-i2 goal.the-decreases-loop-i2 goal.the-invariant-loop-i3 goal.the-decreases-loop-i3 goal.the-invariant-loop-i4 goal.the-decreases-loop-i4
+ElseNotThird = Lts.Else3 Tie.the-claims Reads.Pre Reads.Post goal.the-invariant-loop-i goal.the-decreases-loop-i goal.the-invariant-loop-i2
+    goal.the-decreases-loop-i2 goal.the-invariant-loop-i3 goal.the-decreases-loop-i3 goal.the-invariant-loop-i4 goal.the-decreases-loop-i4
 
 -- the place itself
 abbrev AfterStanding1Place2 : Type 0
-AfterStanding1Place2 = Lts.After-standing12 Tie.the-claims Reads.Pre Reads.Post goal.the-invariant-loop-i goal.the-decreases-loop-i goal.the-invariant-loop-i2 goal.the-decreases-loop-i2 goal.the-invariant-loop-i3 goal.the-decreases-loop-i3 goal.the-invariant-loop-i4 goal.the-decreases-loop-i4
+AfterStanding1Place2 = Lts.After-standing12 Tie.the-claims Reads.Pre Reads.Post goal.the-invariant-loop-i goal.the-decreases-loop-i goal.the-invariant-loop-i2
+    goal.the-decreases-loop-i2 goal.the-invariant-loop-i3 goal.the-decreases-loop-i3 goal.the-invariant-loop-i4 goal.the-decreases-loop-i4
 
 -- the place itself
 abbrev ElseNotFourth : Type 0
-ElseNotFourth = Lts.Else4 Tie.the-claims Reads.Pre Reads.Post goal.the-invariant-loop-i goal.the-decreases-loop-i goal.the-invariant-loop-i2 goal.the-decreases-loop-i2 goal.the-invariant-loop-i3 goal.the-decreases-loop-i3 goal.the-invariant-loop-i4 goal.the-decreases-loop-i4
+ElseNotFourth = Lts.Else4 Tie.the-claims Reads.Pre Reads.Post goal.the-invariant-loop-i goal.the-decreases-loop-i goal.the-invariant-loop-i2
+    goal.the-decreases-loop-i2 goal.the-invariant-loop-i3 goal.the-decreases-loop-i3 goal.the-invariant-loop-i4 goal.the-decreases-loop-i4
 
 -- the place itself
 abbrev ElseSecondFar : Type 0
-ElseSecondFar = Lts.Else2 Tie.the-claims Reads.Pre Reads.Post goal.the-invariant-loop-i goal.the-decreases-loop-i goal.the-invariant-loop-i2 goal.the-decreases-loop-i2 goal.the-invariant-loop-i3 goal.the-decreases-loop-i3 goal.the-invariant-loop-i4 goal.the-decreases-loop-i4
+ElseSecondFar = Lts.Else2 Tie.the-claims Reads.Pre Reads.Post goal.the-invariant-loop-i goal.the-decreases-loop-i goal.the-invariant-loop-i2
+    goal.the-decreases-loop-i2 goal.the-invariant-loop-i3 goal.the-decreases-loop-i3 goal.the-invariant-loop-i4 goal.the-decreases-loop-i4
 
 -- the place itself
 abbrev AfterLoopI3 : Type 0
-AfterLoopI3 = Lts.After-loop3 Tie.the-claims Reads.Pre Reads.Post goal.the-invariant-loop-i goal.the-decreases-loop-i goal.the-invariant-loop-i2 goal.the-decreases-loop-i2 goal.the-invariant-loop-i3 goal.the-decreases-loop-i3 goal.the-invariant-loop-i4 goal.the-decreases-loop-i4
+AfterLoopI3 = Lts.After-loop3 Tie.the-claims Reads.Pre Reads.Post goal.the-invariant-loop-i goal.the-decreases-loop-i goal.the-invariant-loop-i2
+    goal.the-decreases-loop-i2 goal.the-invariant-loop-i3 goal.the-decreases-loop-i3 goal.the-invariant-loop-i4 goal.the-decreases-loop-i4
 
 -- the place itself
 abbrev AfterLoopI4 : Type 0
-AfterLoopI4 = Lts.After-loop4 Tie.the-claims Reads.Pre Reads.Post goal.the-invariant-loop-i goal.the-decreases-loop-i goal.the-invariant-loop-i2 goal.the-decreases-loop-i2 goal.the-invariant-loop-i3 goal.the-decreases-loop-i3 goal.the-invariant-loop-i4 goal.the-decreases-loop-i4
+AfterLoopI4 = Lts.After-loop4 Tie.the-claims Reads.Pre Reads.Post goal.the-invariant-loop-i goal.the-decreases-loop-i goal.the-invariant-loop-i2
+    goal.the-decreases-loop-i2 goal.the-invariant-loop-i3 goal.the-decreases-loop-i3 goal.the-invariant-loop-i4 goal.the-decreases-loop-i4
 
 -- the place itself
 abbrev AfterFirstThreeT : Type 0
-AfterFirstThreeT = Lts.After-first_three Tie.the-claims Reads.Pre Reads.Post goal.the-invariant-loop-i goal.the-decreases-loop-i goal.the-invariant-loop-i2 goal.the-decreases-loop-i2 goal.the-invariant-loop-i3 goal.the-decreases-loop-i3 goal.the-invariant-loop-i4 goal.the-decreases-loop-i4
+AfterFirstThreeT = Lts.After-first_three Tie.the-claims Reads.Pre Reads.Post goal.the-invariant-loop-i goal.the-decreases-loop-i goal.the-invariant-loop-i2
+    goal.the-decreases-loop-i2 goal.the-invariant-loop-i3 goal.the-decreases-loop-i3 goal.the-invariant-loop-i4 goal.the-decreases-loop-i4
 
 -- the place itself
 abbrev ElseNotFirst : Type 0
-ElseNotFirst = Lts.Else1 Tie.the-claims Reads.Pre Reads.Post goal.the-invariant-loop-i goal.the-decreases-loop-i goal.the-invariant-loop-i2 goal.the-decreases-loop-i2 goal.the-invariant-loop-i3 goal.the-decreases-loop-i3 goal.the-invariant-loop-i4 goal.the-decreases-loop-i4
+ElseNotFirst = Lts.Else1 Tie.the-claims Reads.Pre Reads.Post goal.the-invariant-loop-i goal.the-decreases-loop-i goal.the-invariant-loop-i2
+    goal.the-decreases-loop-i2 goal.the-invariant-loop-i3 goal.the-decreases-loop-i3 goal.the-invariant-loop-i4 goal.the-decreases-loop-i4
 
 -- the place itself
 abbrev AfterLoopI2 : Type 0
-AfterLoopI2 = Lts.After-loop2 Tie.the-claims Reads.Pre Reads.Post goal.the-invariant-loop-i goal.the-decreases-loop-i goal.the-invariant-loop-i2 goal.the-decreases-loop-i2 goal.the-invariant-loop-i3 goal.the-decreases-loop-i3 goal.the-invariant-loop-i4 goal.the-decreases-loop-i4
+AfterLoopI2 = Lts.After-loop2 Tie.the-claims Reads.Pre Reads.Post goal.the-invariant-loop-i goal.the-decreases-loop-i goal.the-invariant-loop-i2
+    goal.the-decreases-loop-i2 goal.the-invariant-loop-i3 goal.the-decreases-loop-i3 goal.the-invariant-loop-i4 goal.the-decreases-loop-i4
 
 -- the place itself
 abbrev AfterLoopI : Type 0
-AfterLoopI = Lts.After-loop Tie.the-claims Reads.Pre Reads.Post goal.the-invariant-loop-i goal.the-decreases-loop-i goal.the-invariant-loop-i2 goal.the-decreases-loop-i2 goal.the-invariant-loop-i3 goal.the-decreases-loop-i3 goal.the-invariant-loop-i4 goal.the-decreases-loop-i4
+AfterLoopI = Lts.After-loop Tie.the-claims Reads.Pre Reads.Post goal.the-invariant-loop-i goal.the-decreases-loop-i goal.the-invariant-loop-i2
+    goal.the-decreases-loop-i2 goal.the-invariant-loop-i3 goal.the-decreases-loop-i3 goal.the-invariant-loop-i4 goal.the-decreases-loop-i4
 
 -- the place itself
 abbrev AfterHeldAtV4 : Type 0
-AfterHeldAtV4 = Lts.After-held_at8 Tie.the-claims Reads.Pre Reads.Post goal.the-invariant-loop-i goal.the-decreases-loop-i goal.the-invariant-loop-i2 goal.the-decreases-loop-i2 goal.the-invariant-loop-i3 goal.the-decreases-loop-i3 goal.the-invariant-loop-i4 goal.the-decreases-loop-i4
+AfterHeldAtV4 = Lts.After-held_at8 Tie.the-claims Reads.Pre Reads.Post goal.the-invariant-loop-i goal.the-decreases-loop-i goal.the-invariant-loop-i2
+    goal.the-decreases-loop-i2 goal.the-invariant-loop-i3 goal.the-decreases-loop-i3 goal.the-invariant-loop-i4 goal.the-decreases-loop-i4
 
 -- the place itself
 abbrev AfterPointOfP2 : Type 0
-AfterPointOfP2 = Lts.After-point_of2 Tie.the-claims Reads.Pre Reads.Post goal.the-invariant-loop-i goal.the-decreases-loop-i goal.the-invariant-loop-i2 goal.the-decreases-loop-i2 goal.the-invariant-loop-i3 goal.the-decreases-loop-i3 goal.the-invariant-loop-i4 goal.the-decreases-loop-i4
+AfterPointOfP2 = Lts.After-point_of2 Tie.the-claims Reads.Pre Reads.Post goal.the-invariant-loop-i goal.the-decreases-loop-i goal.the-invariant-loop-i2
+    goal.the-decreases-loop-i2 goal.the-invariant-loop-i3 goal.the-decreases-loop-i3 goal.the-invariant-loop-i4 goal.the-decreases-loop-i4
 
 -- the place itself
 abbrev AfterPointOfP1 : Type 0
-AfterPointOfP1 = Lts.After-point_of Tie.the-claims Reads.Pre Reads.Post goal.the-invariant-loop-i goal.the-decreases-loop-i goal.the-invariant-loop-i2 goal.the-decreases-loop-i2 goal.the-invariant-loop-i3 goal.the-decreases-loop-i3 goal.the-invariant-loop-i4 goal.the-decreases-loop-i4
+AfterPointOfP1 = Lts.After-point_of Tie.the-claims Reads.Pre Reads.Post goal.the-invariant-loop-i goal.the-decreases-loop-i goal.the-invariant-loop-i2
+    goal.the-decreases-loop-i2 goal.the-invariant-loop-i3 goal.the-decreases-loop-i3 goal.the-invariant-loop-i4 goal.the-decreases-loop-i4
 
 -- the place itself
 abbrev AfterPointOfP3 : Type 0
-AfterPointOfP3 = Lts.After-point_of3 Tie.the-claims Reads.Pre Reads.Post goal.the-invariant-loop-i goal.the-decreases-loop-i goal.the-invariant-loop-i2 goal.the-decreases-loop-i2 goal.the-invariant-loop-i3 goal.the-decreases-loop-i3 goal.the-invariant-loop-i4 goal.the-decreases-loop-i4
+AfterPointOfP3 = Lts.After-point_of3 Tie.the-claims Reads.Pre Reads.Post goal.the-invariant-loop-i goal.the-decreases-loop-i goal.the-invariant-loop-i2
+    goal.the-decreases-loop-i2 goal.the-invariant-loop-i3 goal.the-decreases-loop-i3 goal.the-invariant-loop-i4 goal.the-decreases-loop-i4
 
 -- the place itself
 abbrev AfterHeldAtV1 : Type 0
-AfterHeldAtV1 = Lts.After-held_at2 Tie.the-claims Reads.Pre Reads.Post goal.the-invariant-loop-i goal.the-decreases-loop-i goal.the-invariant-loop-i2 goal.the-decreases-loop-i2 goal.the-invariant-loop-i3 goal.the-decreases-loop-i3 goal.the-invariant-loop-i4 goal.the-decreases-loop-i4
+AfterHeldAtV1 = Lts.After-held_at2 Tie.the-claims Reads.Pre Reads.Post goal.the-invariant-loop-i goal.the-decreases-loop-i goal.the-invariant-loop-i2
+    goal.the-decreases-loop-i2 goal.the-invariant-loop-i3 goal.the-decreases-loop-i3 goal.the-invariant-loop-i4 goal.the-decreases-loop-i4
 
 -- the place itself
 abbrev AfterHeldAtV2 : Type 0
-AfterHeldAtV2 = Lts.After-held_at4 Tie.the-claims Reads.Pre Reads.Post goal.the-invariant-loop-i goal.the-decreases-loop-i goal.the-invariant-loop-i2 goal.the-decreases-loop-i2 goal.the-invariant-loop-i3 goal.the-decreases-loop-i3 goal.the-invariant-loop-i4 goal.the-decreases-loop-i4
+AfterHeldAtV2 = Lts.After-held_at4 Tie.the-claims Reads.Pre Reads.Post goal.the-invariant-loop-i goal.the-decreases-loop-i goal.the-invariant-loop-i2
+    goal.the-decreases-loop-i2 goal.the-invariant-loop-i3 goal.the-decreases-loop-i3 goal.the-invariant-loop-i4 goal.the-decreases-loop-i4
 
 -- the place itself
 abbrev AfterHeldAtV3 : Type 0
-AfterHeldAtV3 = Lts.After-held_at6 Tie.the-claims Reads.Pre Reads.Post goal.the-invariant-loop-i goal.the-decreases-loop-i goal.the-invariant-loop-i2 goal.the-decreases-loop-i2 goal.the-invariant-loop-i3 goal.the-decreases-loop-i3 goal.the-invariant-loop-i4 goal.the-decreases-loop-i4
+AfterHeldAtV3 = Lts.After-held_at6 Tie.the-claims Reads.Pre Reads.Post goal.the-invariant-loop-i goal.the-decreases-loop-i goal.the-invariant-loop-i2
+    goal.the-decreases-loop-i2 goal.the-invariant-loop-i3 goal.the-decreases-loop-i3 goal.the-invariant-loop-i4 goal.the-decreases-loop-i4
 
 abbrev One : Type 0
 One = AfterHeldAtV1
@@ -400,7 +419,8 @@ triangle_is c = c.first_three-t.ensures
 
 fourth_is : (c : AfterLoopI4)
     → let third = c.before.before.before.before in
-    c.loop-i4.fourth ≡ fourth_best (start3 third.before).args.normal (tolerance (start3 third.before).args.far) (triangle third.before) (rest (start3 third.before) (js3 third.before))
+    c.loop-i4.fourth ≡ fourth_best (start3 third.before).args.normal (tolerance (start3 third.before).args.far) (triangle third.before)
+    (rest (start3 third.before) (js3 third.before))
 fourth_is c =
     let third = c.before.before.before.before in
     let start = start3 third.before in
@@ -417,7 +437,8 @@ fourth_index c =
     let third = c.before.before.before.before.before.before in
     let start = start3 third.before in
     let best = c.loop-i4.fourth in
-    index_low start (js3 third.before) best.index (fourth_low (tolerance start.args.far) start.args.normal (triangle third.before) (rest start (js3 third.before)) best
+    index_low start (js3 third.before) best.index (fourth_low (tolerance start.args.far) start.args.normal (triangle third.before)
+    (rest start (js3 third.before)) best
     (fourth_is c.before.before) (not-false _ c.if-not-fourth.false))
 
 fourth_place : (c : AfterStanding3Place4)
@@ -550,7 +571,8 @@ returns-then-second-far c =
     let a = (start1 first.before).args in
     c.one_point.ensures
     ∙ ap (contact_of a.normal)
-    (ap₂ ◌∷◌ (told1 point.before) (no_second a.far a.normal (v1 first.before) (rest (start1 first.before) (js1 first.before)) (rest_points (start1 first.before) (js1 first.before))
+    (ap₂ ◌∷◌ (told1 point.before) (no_second a.far a.normal (v1 first.before) (rest (start1 first.before) (js1 first.before))
+    (rest_points (start1 first.before) (js1 first.before))
     c.loop-i2.second (second_is c.before.before.before.before) c.if-second-far.true)
     ∙ one_taken first.before)
 
@@ -615,7 +637,8 @@ returns-then-not-third c =
     let a = (start2 second.before).args in
     c.two_points.ensures
     ∙ ap (contact_of a.normal)
-    (ap₂ ◌∷◌ (told1 (made1 second.before)) (ap₂ ◌∷◌ (told2 point.before) (no_third a.far a.normal (v1 (one second.before)) (v2 second.before) (rest (start2 second.before) (js2 second.before))
+    (ap₂ ◌∷◌ (told1 (made1 second.before)) (ap₂ ◌∷◌ (told2 point.before) (no_third a.far a.normal (v1 (one second.before)) (v2 second.before)
+    (rest (start2 second.before) (js2 second.before))
     (rest_points (start2 second.before) (js2 second.before)) c.loop-i3.third (third_is c.before.before.before.before)
     (not-true _ c.if-not-third.true)))
     ∙ two_taken second.before)
@@ -675,7 +698,8 @@ returns-then-not-fourth c =
     c.three_points.ensures
     ∙ ap (contact_of a.normal)
     (ap₂ ◌∷◌ (told1 (made1 second)) (ap₂ ◌∷◌ (told2 (made2 third.before.before)) (ap₂ ◌∷◌ (told3 point.before.before)
-    (no_fourth a.far a.normal (v1 (one second)) (v2 second) (v3 third.before.before) (rest (start3 third.before.before) (js3 third.before.before)) (rest_points (start3 third.before.before) (js3 third.before.before))
+    (no_fourth a.far a.normal (v1 (one second)) (v2 second) (v3 third.before.before) (rest (start3 third.before.before) (js3 third.before.before))
+    (rest_points (start3 third.before.before) (js3 third.before.before))
     c.loop-i4.fourth (fourth_is c.before.before.before.before) (not-true _ c.if-not-fourth.true))))
     ∙ three_taken third.before.before)
 

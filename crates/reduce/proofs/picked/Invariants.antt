@@ -23,7 +23,8 @@ decreases-loop-i l = l.n - l.i
 
 abbrev pub invariant-loop-i2 : goal.invariant-loop-i2
 invariant-loop-i2 l =
-    (l.i2 ≤ l.left2) × (l.second ≡ over (second_turn l.normal l.a) (nothing (float 0)) (left past_vertex (images_in l.normal l.places l.tags l.from l.n) (l.j1 ∷ [])) l.i2)
+    (l.i2 ≤ l.left2) × (l.second ≡ over (second_turn l.normal l.a) (nothing (float 0)) (left past_vertex (images_in l.normal l.places l.tags l.from l.n)
+    (l.j1 ∷ [])) l.i2)
 
 abbrev pub decreases-loop-i2 : goal.decreases-loop-i2
 decreases-loop-i2 l = l.left2 - l.i2

@@ -8,7 +8,8 @@ use Rattle.step.proofs.answer_pairs.Given as goal
 
 abbrev pub invariant-loop-k : goal.invariant-loop-k
 invariant-loop-k l =
-    (l.n ≡ length l.pairs / 2) × (l.k ≤ l.n) × PairsDone (answer_in l.numbers l.links l.hulls l.pairs l.transforms) l.k l.initial.caches l.initial.floats l.initial.bytes l.points l.caches l.floats l.bytes
+    (l.n ≡ length l.pairs / 2) × (l.k ≤ l.n) × PairsDone (answer_in l.numbers l.links l.hulls l.pairs l.transforms) l.k l.initial.caches l.initial.floats
+    l.initial.bytes l.points l.caches l.floats l.bytes
     × Roomy l.places l.tags
 
 abbrev pub decreases-loop-k : goal.decreases-loop-k

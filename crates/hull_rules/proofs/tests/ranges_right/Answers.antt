@@ -7,7 +7,8 @@ use Rattle.hull_rules.proofs.tests.ranges_right.Goals as goal
 
 pub returns-then-not-stored_in_range : goal.returns-then-not-stored_in_range
 unfolding h2
-returns-then-not-stored_in_range c = sym (and_false_left _ _ (and_false_left _ _ (sym (vertex_edges _ _) ∙ sym c.stored_in_range.ensures ∙ c.if-not-stored_in_range.true)))
+returns-then-not-stored_in_range c = sym (and_false_left _ _ (and_false_left _ _ (sym (vertex_edges _ _) ∙ sym c.stored_in_range.ensures ∙
+    c.if-not-stored_in_range.true)))
 
 pub returns-then-not-edges_in_range : goal.returns-then-not-edges_in_range
 unfolding h2

@@ -29,7 +29,8 @@ loop-i-preserved c =
     let at : read.corner_at-v.result ≡ get_or (corners start.before) l.i past_vertex = read.corner_at-v.ensures
     ∙ sym (corner_in_lem a.places.now a.tags.now a.from a.n l.i past_vertex read.loop-i-test.true) in (
       search rules,
-      turn_over least_turn largest (corners start.before) l.least c.min_float-least.result l.i read.corner_at-v.result l.invariant.1 at c.min_float-least.ensures,
+      turn_over least_turn largest (corners start.before) l.least c.min_float-least.result l.i read.corner_at-v.result l.invariant.1 at
+          c.min_float-least.ensures,
     )
 
 pub returns : goal.returns
