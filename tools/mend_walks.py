@@ -91,6 +91,9 @@ def mend(crate, said, names):
             with open(os.path.join("crates", crate, path), encoding="utf-8") as f:
                 spelled.update(dict(re.findall(r"(?m)^abbrev (\w+) : Type 0\n\1 = Lts\.([\w+'-]+)", f.read())))
             want, got = spelled.get(x.group(1), x.group(1)), spelled.get(x.group(2), x.group(2))
+            if want == got and x.group(1) in {k for k, v in spelled.items() if v == want} and not x.group(1).startswith("View."):
+                # the name that stands for the place is the goal's own view of it
+                want = "View." + want
             if want.startswith("View."):
                 # a goal's own view of a place, and the place itself: the lemma takes the place itself
                 raw = re.search(r"but this has type `([^`]*)`", b)
@@ -111,7 +114,7 @@ def mend(crate, said, names):
         if x:
             edits.setdefault(path, []).append((line, col, "wrap", "not-" + x.group(1)))
             continue
-        if "(mathlib.Core.Bool.not" in b:
+        if "(mathlib.Core.Bool.not" in b or re.search(r"expected type `(?:mathlib\.Core\.Bool\.)?not \(\?", b):
             edits.setdefault(path, []).append((line, col, "not", None))
             continue
         x = re.search(r"has no field `(keys\d*)`", b)

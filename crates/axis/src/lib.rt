@@ -1,4 +1,6 @@
 // The axis search of separating_axis.rs and its answer: the faces of A, the faces of B, then the pairs of edges.
+#![tactic(auto)]
+
 ghost use Rattle.std.specs.Prelude.{◌≡◌, true};
 ghost use Rattle.rotation.specs.Rotation.{matrix_of};
 ghost use Rattle.hull_limits.specs.Transform.{Placed};

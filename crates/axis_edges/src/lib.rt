@@ -1,5 +1,7 @@
 // One pair of edges, from the edge phase of separating_axis.rs: the edges' data, the test for near parallel edges, the axis between two edges and its
 // separation.
+#![tactic(auto)]
+
 ghost use Rattle.std.specs.Prelude.{◌≡◌, ◌+◌, ◌*◌, ◌<◌};
 ghost use Rattle.hull_links.specs.Links.{NumbersFit};
 ghost use Rattle.axis_edges.specs.Edges.{dot_right, difference_of, sum_of, edge_of_a, parallel_of, between_of, axis_across_of, edge_separation_of, tried_of};

@@ -1,4 +1,6 @@
 // The face phase of separating_axis.rs: each face of one hull against the vertices of the other. One loop serves A's faces and B's.
+#![tactic(auto)]
+
 pub mod support;
 
 ghost use Rattle.std.specs.Prelude.{◌≡◌, ◌<◌};

@@ -1,5 +1,7 @@
 // The lists that the edge phase reads: vectors as three lists of 128 in one slice, filled by loops with one store and no branch, which go
 // four numbers at a time.
+#![tactic(auto)]
+
 ghost use Rattle.std.specs.Prelude.{◌≡◌, ◌+◌, ◌*◌, ◌<◌, ◌≤◌, length};
 ghost use Rattle.hull_links.specs.Links.{NumbersFit};
 ghost use Rattle.rotation.specs.Bounded.{row_of};

@@ -1,6 +1,8 @@
 // The edge phase of separating_axis.rs: every edge of B against every edge of A. The dot of a normal of B along an edge of A is worked out
 // once for the face and the edge, in a table, and not once for each pair; so is that of a normal of A along an edge of B. The axis is worked
 // out for the pairs that pass all tests alone.
+#![tactic(auto)]
+
 ghost use Rattle.std.specs.Prelude.{true, ◌≡◌, ◌+◌, ◌*◌, ◌/◌, ◌<◌, ◌≤◌, leb, length};
 ghost use Rattle.hull_links.specs.Links.{NumbersFit};
 ghost use Rattle.axis_edges.specs.Edges.{edge_of_a, edge_of_b};

@@ -1,6 +1,8 @@
 // One edge of B against the edges of A. The edges of A that pass the first test of signs are found without a branch, by the dots of B's
 // two normals along A's edges; of these, the ones that pass the other two, by the dots of A's normals along B's edge. A number is put where
 // the next one kept will stand, and kept by moving on only where it passes. The axis is worked out for the pairs that pass all tests alone.
+#![tactic(auto)]
+
 ghost use Rattle.std.specs.Prelude.{false, cond, ◌≡◌, ℕ, ◌+◌, ◌*◌, ◌<◌, ◌≤◌, length, take, get_or};
 ghost use Rattle.hull_links.specs.Links.{NumbersFit};
 ghost use Rattle.axis_best.specs.Leads.{lead_after};

@@ -1,5 +1,7 @@
 // The candidates of a face contact, from clip.rs and hulls.rs: the face of hull B that lies flattest against a face of hull A, as a polygon in A's
 // frame, cut by the sides of A's face one after the other. What the candidates are, as a list, is in specs/Candidates.antt.
+#![tactic(auto)]
+
 pub mod sides;
 
 ghost use Rattle.std.specs.Prelude.{◌≡◌, ◌<◌};

@@ -1,5 +1,7 @@
 // Corners in two lent lists, with room for 128 of them: four numbers each (position and separation) and four bytes (the tag). A polygon has 64
 // places, so two stand there side by side, one that is cut and one that the cut leaves. What the lists hold is in specs/Places.antt.
+#![tactic(auto)]
+
 ghost use Rattle.std.specs.Prelude.{◌≡◌, [], ◌∷◌, ◌≤◌, ◌<◌, length};
 ghost use Rattle.clip_corners.specs.Places.{Roomy, corner_in, numbers_with, tags_with, Laid};
 

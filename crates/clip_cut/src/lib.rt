@@ -1,5 +1,7 @@
 // One cut of a polygon by a plane, from clip.rs: what lies on or below the plane stays, and new corners stand where the outline meets it.
 // What each edge of the polygon puts out, and the whole cut as a list, is in specs/Cut.antt.
+#![tactic(auto)]
+
 ghost use Rattle.std.specs.Prelude.{◌≡◌, List, ℕ, ◌≤◌, ◌<◌, length};
 ghost use Rattle.clip_cut.specs.Cut.{meeting_of, leaving_of, entering_of, put_out_of, cut_of, all_kept};
 ghost use Rattle.clip_corners.specs.Places.{Roomy, SideBySide, Half, corners_in, Laid};

@@ -1,4 +1,6 @@
 // The incident face: of the faces round a vertex, one beside the edge that lies flattest against a plane.
+#![tactic(auto)]
+
 ghost use Rattle.std.specs.Prelude.{◌≡◌, ◌<◌};
 ghost use Rattle.hull.specs.Accepted.{Accepted};
 ghost use Rattle.clip_incident.specs.Incident.{projection_of, flatter_of, flattest_of, lower_face_of, incident_face_of};

@@ -1,6 +1,8 @@
 // The reduction to four points, from sat.rs. Nothing is moved while points are picked: where a pick's place is filled by the last candidate, the later
 // searches read the last candidate there. So a place that is read is the candidate's own, in the list as it stood before any pick, and the point says
 // it. What each point is, and which candidate, is in specs/Reduce.antt.
+#![tactic(auto)]
+
 pub mod all;
 pub mod held;
 pub mod places;

@@ -1,4 +1,6 @@
 // The contact of up to four points, unused ones above their number. What it holds is in specs/Points.antt.
+#![tactic(auto)]
+
 ghost use Rattle.std.specs.Prelude.{[], ◌∷◌, ◌≡◌};
 ghost use Rattle.reduce_points.specs.Points.{point_of, contact_of};
 

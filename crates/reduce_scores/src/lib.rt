@@ -1,5 +1,7 @@
 // The candidates' images, from hulls.rs, and how good an image is as a point of the contact, from sat.rs: the four scores, and when one takes the
 // place of the best before it.
+#![tactic(auto)]
+
 pub mod images;
 
 ghost use Rattle.std.specs.Prelude.{◌≡◌};

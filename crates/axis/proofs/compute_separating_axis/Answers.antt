@@ -27,9 +27,9 @@ returns-then-edge c = let going : c.side_a-a.result.apart ≡ false = c.if-a.fal
 
 pub found_along-requires : goal.found_along-requires
 found_along-requires c = let is_found : Lead → _ = λ lead. lead.found in (
-      ap is_found c.side_a-a.ensures ∙ found_a _ c.requires.0 c.requires.1 c.requires.2,
-      ap is_found c.side_b-b.ensures ∙ found_b _ c.requires.0 c.requires.1 c.requires.2,
-    )
+  ap is_found c.side_a-a.ensures ∙ found_a _ c.requires.0 c.requires.1 c.requires.2,
+  ap is_found c.side_b-b.ensures ∙ found_b _ c.requires.0 c.requires.1 c.requires.2,
+)
 
 pub returns : goal.returns
 unfolding search_of

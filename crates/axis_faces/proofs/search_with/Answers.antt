@@ -1,7 +1,7 @@
 -- The loop keeps the lead after the faces so far, and goes on only where that has not stopped the search.
 use mathlib.Core.Path.{◌≡◌, ap, ◌∙◌}
 use mathlib.Core.Bool.{true, false}
-use Prim.Native.Nat.{◌+◌, ◌-◌, ◌<◌}
+use Prim.Native.Nat.{◌+◌, ◌<◌}
 use native.Mathlib.Omega.{arith}
 use Rattle.axis_best.specs.declared.Lead.{Lead}
 use Rattle.axis_faces.proofs.Facing.{no_face, one_face, stopped_face, all_faces}

@@ -2,7 +2,7 @@
 use Rattle.axis_edges.proofs.Ready.{origin_below}
 use Rattle.axis_lists.proofs.Fills.{begins, goes_on, ends}
 use native.Mathlib.Omega.{arith}
-use Prim.Native.Nat.{◌<◌, ◌-◌}
+use Prim.Native.Nat.{◌<◌}
 use borrow.Author.Rules.{rules}
 use Rattle.axis_lists.proofs.fill_differences.Goals as goal
 use Rattle.axis_lists.proofs.fill_differences.Lts

@@ -3,7 +3,6 @@ use Rattle.axis_lists.proofs.Fills.{begins, goes_on, ends}
 use Rattle.axis_lists.specs.inner.Lists.{vector_in}
 use Rattle.axis_edges.specs.Edges.{dot_right}
 use native.Mathlib.Omega.{arith}
-use Prim.Native.Nat.{◌-◌}
 use borrow.Author.Rules.{rules}
 use Rattle.axis_lists.proofs.fill_row.Goals as goal
 

@@ -1,7 +1,6 @@
 -- `fill_turned_normals`: a filling loop.
 use Rattle.axis_lists.proofs.Fills.{begins, goes_on, ends}
 use native.Mathlib.Omega.{arith}
-use Prim.Native.Nat.{◌-◌}
 use borrow.Author.Rules.{rules}
 use Rattle.axis_lists.proofs.fill_turned_normals.Goals as goal
 

@@ -5,7 +5,6 @@ use Rattle.axis_edges.specs.Edges.{dot_right}
 use lib.ListN.{length-set}
 use mathlib.Core.Path.{◌≡◌, refl, ap, ◌∙◌}
 use native.Mathlib.Omega.{arith}
-use Prim.Native.Nat.{◌-◌}
 use borrow.Author.Rules.{rules}
 use Rattle.axis_lists.proofs.fill_two_rows.Goals as goal
 

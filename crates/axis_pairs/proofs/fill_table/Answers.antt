@@ -1,10 +1,9 @@
 -- The loop keeps `Filling`: the rows of the faces so far stand in the table.
 use Rattle.axis_pairs.proofs.Tables.{begins, room, goes_on, ends}
-use Rattle.axis_lists.specs.inner.Lists.{vector_in}
 use native.Mathlib.Nat.{le_refl, le_of_lt, mul-le-mul}
 use lib.ListN.{length}
 use native.Mathlib.Omega.{arith}
-use Prim.Native.Nat.{◌+◌, ◌≤◌, ◌-◌}
+use Prim.Native.Nat.{◌+◌, ◌≤◌}
 use Rattle.axis_pairs.proofs.fill_table.Goals as goal
 use Rattle.axis_pairs.proofs.fill_table.Lts
 use Rattle.axis_pairs.proofs.fill_table.Tie

@@ -13,10 +13,9 @@ use Rattle.axis_best.specs.declared.Lead.{Lead}
 use lib.Ieee.{Float}
 use native.Mathlib.Nat.{le_antisymm}
 use native.Mathlib.Omega.{arith}
-use mathlib.Core.Bool.{true, false}
 use mathlib.Core.List.{List}
 use mathlib.Core.Path.{◌≡◌, sym, ap, ◌∙◌, subst}
-use Prim.Native.Nat.{ℕ, ◌+◌, ◌*◌, ◌≤◌, ◌<◌, ◌-◌}
+use Prim.Native.Nat.{ℕ, ◌+◌, ◌*◌, ◌≤◌, ◌<◌}
 use Rattle.axis_pairs.proofs.scan_rows.Goals as goal
 use Rattle.axis_pairs.proofs.scan_rows.Goals.{Start}
 use Rattle.axis_pairs.proofs.scan_rows.Lts

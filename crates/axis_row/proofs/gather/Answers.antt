@@ -2,7 +2,7 @@
 use Rattle.axis_row.proofs.Marking.{adds}
 use Rattle.axis_row.proofs.Sifting.{up_begins, up_goes_on, up_ends}
 use native.Mathlib.Omega.{arith}
-use Prim.Native.Nat.{ℕ, ◌+◌, ◌-◌}
+use Prim.Native.Nat.{ℕ, ◌+◌}
 use mathlib.Core.Path.{ap}
 use Rattle.axis_row.proofs.gather.Goals as goal
 

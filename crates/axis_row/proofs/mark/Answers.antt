@@ -3,7 +3,7 @@ use Rattle.axis_row.proofs.Marking.{begins, goes_on, ends, bounded}
 use mathlib.Core.Path.{refl}
 use Rattle.axis_row.specs.inner.Marks.{fails_first}
 use native.Mathlib.Omega.{arith}
-use Prim.Native.Nat.{◌≤◌, ◌-◌}
+use Prim.Native.Nat.{◌≤◌}
 use Rattle.axis_row.proofs.mark.Goals as goal
 
 pub loop-i-init : goal.loop-i-init

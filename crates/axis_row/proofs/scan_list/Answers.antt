@@ -9,9 +9,8 @@ use Rattle.axis_best.specs.declared.Lead.{Lead}
 use lib.ListN.{get_or}
 use native.Mathlib.Nat.{le_antisymm}
 use native.Mathlib.Omega.{arith}
-use mathlib.Core.Bool.{false}
 use mathlib.Core.Path.{◌≡◌, sym, ap, ◌∙◌, subst}
-use Prim.Native.Nat.{ℕ, ◌+◌, ◌<◌, ◌-◌}
+use Prim.Native.Nat.{ℕ, ◌+◌, ◌<◌}
 use borrow.Author.Rules.{rules}
 use Rattle.axis_row.proofs.scan_list.Goals as goal
 use Rattle.axis_row.proofs.scan_list.Goals.{Start}

@@ -1,5 +1,4 @@
 -- The loop keeps `Cutting`: what was put out and what is still to come make the whole cut.
-use Prim.Native.Nat.{◌-◌}
 use mathlib.Core.Path.{sym, ◌∙◌}
 use native.Mathlib.Omega.{arith}
 use Rattle.clip_cut.proofs.Cutting.{begins, roomy, goes_on, cut_is}
@@ -26,10 +25,10 @@ corner_at-v2-requires c = (
 
 pub put_out-k-requires : goal.put_out-k-requires
 put_out-k-requires c = (
-      roomy _ _ _ _ _ _ _ _ c.requires.0 c.requires.1 c.requires.3 _ _ _ _ _ _ c.loop-i.invariant,
-      c.requires.1.low.1,
-      omega (arith, c.loop-i.invariant.few, c.requires.3, c.loop-i-test.true),
-    )
+  roomy _ _ _ _ _ _ _ _ c.requires.0 c.requires.1 c.requires.3 _ _ _ _ _ _ c.loop-i.invariant,
+  c.requires.1.low.1,
+  omega (arith, c.loop-i.invariant.few, c.requires.3, c.loop-i-test.true),
+)
 
 pub overflow_add-i : goal.overflow_add-i
 overflow_add-i c = omega (

@@ -1,5 +1,4 @@
 -- The loop keeps `Keeping`: the corners so far are kept, so those that are left decide.
-use Prim.Native.Nat.{◌-◌}
 use native.Mathlib.Omega.{arith}
 use Rattle.clip_cut.proofs.Keeping.{keep_begins, keep_goes, keep_stops, keep_ends}
 use Rattle.clip_cut.proofs.keeps_all.Goals as goal

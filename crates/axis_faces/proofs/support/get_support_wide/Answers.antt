@@ -1,6 +1,6 @@
 -- The loop keeps the least of each lane over the groups so far. It is finite, and its number is that of a lane.
 use mathlib.Core.Path.{◌≡◌, ◌∙◌, sym, subst}
-use Prim.Native.Nat.{ℕ, ◌+◌, ◌-◌, ◌*◌, ◌/◌, ◌<◌}
+use Prim.Native.Nat.{ℕ, ◌+◌, ◌*◌, ◌/◌, ◌<◌}
 use native.Mathlib.Omega.{arith}
 use Rattle.hull_links.specs.Links.{padded}
 use Rattle.axis_faces.specs.Support.{group_of}

@@ -1,5 +1,4 @@
 -- The loop keeps `Filling`: what stands so far, and what will be put behind it, make the whole batch.
-use Prim.Native.Nat.{◌-◌}
 use mathlib.Core.Path.{sym, ◌∙◌}
 use native.Mathlib.Omega.{arith}
 use Rattle.hull.proofs.Hulls.{at_next}

@@ -1,5 +1,4 @@
 -- The loop keeps `Held`: the images of the first i candidates are held.
-use Prim.Native.Nat.{◌-◌}
 use mathlib.Core.Path.{sym, ◌∙◌}
 use native.Mathlib.Omega.{arith}
 use borrow.Author.Rules.{rules}

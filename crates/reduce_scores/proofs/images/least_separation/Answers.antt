@@ -1,5 +1,4 @@
 -- The loop's invariant: `least` is the least of the first i separations, by the definition.
-use Prim.Native.Nat.{◌-◌}
 use mathlib.Core.Path.{◌≡◌, sym, ◌∙◌}
 use mathlib.Core.List.{List}
 use lib.ListN.{get_or}
