@@ -31,6 +31,11 @@ class Walk:
         self.folder = os.path.dirname(path)
         self.module = os.path.relpath(self.folder, os.path.join("crates", crate, "proofs")).replace("/", ".")
         self.said, self.cited = [], set()
+        self.rust = set()
+        for folder, _, found in os.walk(os.path.join("crates", crate, "src")):
+            for f in found:
+                with open(os.path.join(folder, f), encoding="utf-8") as it:
+                    self.rust |= set(re.findall(r"[a-z_][a-z0-9_]*", it.read()))
         key = f"Rattle-{crate}-proofs.{self.module}.Lts"
         self.names = names.get(key)
         if self.names is None:
@@ -126,6 +131,11 @@ class Walk:
 
         text = re.sub(r"(?<![\w.'-])([\w']+)((?:\.before)*)\.(?!before\b)([A-Za-z_][^\s(){}\[\];,.λ]*)", one, text)
         text = re.sub(r"\.type-inv\b", ".type_inv", text)
+        def dashed(m):
+            under = m.group(1).replace("-", "_")
+            return "." + under if under in self.rust and norm(m.group(1)) not in self.steps else m.group(0)
+
+        text = re.sub(r"\.([a-z0-9]+(?:-[a-z0-9]+)+)(?![\w-])", dashed, text)
         text = re.sub(r"\.args\.([a-z0-9]+(?:-[a-z0-9]+)+)(?![\w-])", lambda m: ".args." + m.group(1).replace("-", "_"), text)
         text = re.sub(r"\bnot-(?:true|false) _ ([\w.'+-]+\.(?:true|false))(?![\w.])", r"\1", text)
         text = re.sub(r"\.pre\b", ".requires", text)

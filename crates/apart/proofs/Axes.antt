@@ -6,7 +6,7 @@ use Prim.Native.Nat.{ℕ, ◌/◌}
 use lib.Ieee.{Float}
 use Rattle.vector.specs.declared.Transform.{Transform}
 use Rattle.hull_links.specs.declared.HullSize.{HullSize}
-use Rattle.hull_links.specs.Tests.{◌or◌, any}
+use Rattle.hull_links.specs.Tests.{◌or◌}
 use Rattle.hull_links.proofs.Tests.{or_left, or_right, or_use, any_some, any_one}
 use Rattle.apart.specs.Every.{apart_by_every}
 use Rattle.apart.specs.Axes.{FarAxis, of_a, of_b, of_edges}

@@ -1,5 +1,7 @@
 // Whether two hulls are apart, and no more: no cache, no points. The search is that of a call, and it stops at the first axis strictly above the
 // speculative distance; that a search through every axis says the same is in specs/Question.antt and proved here.
+#![tactic(auto)]
+
 ghost use Rattle.std.specs.Prelude.{◌≡◌};
 ghost use Rattle.apart.specs.Question.{refused_question, answered_question, question_of};
 ghost use Rattle.apart.specs.inner.Ends.{ends_apart};

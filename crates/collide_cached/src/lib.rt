@@ -1,4 +1,6 @@
 // The axis of the last call tried again, from hulls.rs: a hit, or the full search has to be made. What each type does is in specs/Again.antt.
+#![tactic(auto)]
+
 pub mod ridges;
 
 ghost use Rattle.std.specs.Prelude.{◌≡◌, ◌+◌, ◌<◌};

@@ -1,4 +1,6 @@
 // The full search of hulls.rs: an axis search, and the contact that it picks. What it builds is in specs/Full.antt.
+#![tactic(auto)]
+
 ghost use Rattle.std.specs.Prelude.{◌≡◌, ◌<◌};
 ghost use Rattle.hull_limits.specs.Transform.{Placed};
 ghost use Rattle.hull.specs.Accepted.{Accepted};

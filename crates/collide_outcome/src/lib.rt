@@ -1,5 +1,7 @@
 // What a contact that is built leaves, as one record; and what becomes of it: the answer of a call, or a cached axis that serves again.
 // What each says is in specs/.
+#![tactic(auto)]
+
 ghost use Rattle.std.specs.Prelude.{◌≡◌};
 ghost use Rattle.collide_outcome.specs.Builds.{touched_of, missed, refused_at};
 ghost use Rattle.collide_outcome.specs.Answers.{retired_of, accepted, refused_of, answer_of};

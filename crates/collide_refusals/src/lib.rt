@@ -1,5 +1,7 @@
 // The refusals that are given before any work, in their order: 1 and 2 of the hulls, which the caller judges, 17 of their units, 3 of the transform,
 // and, where there is a cache, 4 of what it names. What each says is in specs/Refusals.antt.
+#![tactic(auto)]
+
 ghost use Rattle.std.specs.Prelude.{◌≡◌};
 ghost use Rattle.collide_refusals.specs.Refusals.{first_half, cache_right, placed_refusal_of, later_refusal_of};
 

@@ -1,5 +1,7 @@
 // Values read from the bytes of a frame, the high byte first, by the place where they begin. What stands where is in specs/Fields.antt and, of a
 // hull, in specs/Hulls.antt.
+#![tactic(auto)]
+
 pub mod hulls;
 
 ghost use Rattle.std.specs.Prelude.{◌≡◌, ◌+◌, ◌≤◌, ◌<◌, length};

@@ -1,5 +1,7 @@
 // Values written as bytes into a slice that is lent, the high byte first, as document 01's section "The hex program" has them. What each one's bytes
 // are is in specs/Bytes.antt.
+#![tactic(auto)]
+
 ghost use Rattle.std.specs.Prelude.{◌+◌, ◌≤◌, length};
 ghost use Rattle.lists.specs.Written.{Wrote};
 ghost use Rattle.frame_encode.specs.Bytes.{bytes32, float_bytes, vec_bytes, pair_bytes, point_bytes, points_bytes, cache_bytes, head_bytes, longest_answer};

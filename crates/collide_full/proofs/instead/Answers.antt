@@ -1,7 +1,6 @@
 -- `instead`: the face contact stays where the pair is not tried, or made no point.
 use mathlib.Core.Path.{◌≡◌, ◌∙◌, sym}
 use mathlib.Core.Bool.{true, false}
-use borrow.Author.Tests.{not-false}
 use Rattle.collide_full.specs.Full.{tries_edge}
 use Rattle.collide_full.proofs.Cases.{not_tried, pair_instead, pair_missed}
 use Rattle.collide_full.proofs.instead.Goals as goal

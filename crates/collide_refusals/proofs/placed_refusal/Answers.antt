@@ -1,6 +1,5 @@
 -- `placed_refusal`: the two tests in the table's order.
 use mathlib.Core.Path.{sym, ◌∙◌}
-use borrow.Author.Tests.{not-true, not-false}
 use Rattle.collide_refusals.proofs.Cases.{placed_17, placed_3, placed_none}
 use Rattle.collide_refusals.proofs.placed_refusal.Goals as goal
 

@@ -1,6 +1,6 @@
 -- Each turn writes one float behind those that stand.
 use borrow.Author.Rules.{rules}
-use Prim.Native.Nat.{◌-◌, ◌+◌, ◌*◌}
+use Prim.Native.Nat.{◌+◌, ◌*◌}
 use lib.ListN.{length-set}
 use Rattle.frame_decode.specs.Fields.{float_at}
 use Rattle.lists.proofs.Tables.{begun, turned, ended}
