@@ -1,5 +1,7 @@
 // The collision call of hulls.rs, by value: two hulls, a transform and the last cache go in; the outcome and the next cache come out. It requires
 // nothing: whatever breaks a rule is refused by its number. What it answers is in specs/Call.antt, step by step as document 01 has it.
+#![tactic(auto)]
+
 ghost use Rattle.std.specs.Prelude.{true, ◌≡◌, pos};
 ghost use Rattle.hull_limits.specs.Transform.{Placed};
 ghost use Rattle.hull.specs.Rule8.{broken_rule};

@@ -1,5 +1,7 @@
 // Lines of lowercase hexadecimal and the bytes that they stand for. What a digit is, and which bytes a line has, is in specs/Hex.antt.
 // The loops have no way out but their end, so that the compiler can do several characters at once.
+#![tactic(auto)]
+
 ghost use Rattle.std.specs.Prelude.{true, cond, ◌≡◌, ◌*◌, ◌/◌, ◌%◌, ◌≤◌, ◌<◌, length};
 ghost use Rattle.lists.specs.Written.{Wrote};
 ghost use Rattle.frame_hex.specs.Hex.{hex_digit, digit_value_of, digit_of, hex_line, byte_of, bytes_of, hex_of};

@@ -1,5 +1,7 @@
 // The characters of a line whose end has not come, held until it comes, and the ends of lines: what the program does with characters before it knows
 // what they say. specs/Held.antt says how they are held, specs/Ends.antt where a line ends.
+#![tactic(auto)]
+
 ghost use Rattle.std.specs.Prelude.{true, false, List, ◌++◌, ◌≡◌, ℕ, ◌+◌, ◌≤◌, ◌<◌, length, set};
 ghost use Rattle.stream_pending.specs.inner.Copied.{Copied};
 ghost use Rattle.stream_pending.specs.Ends.{to_end, longest_told};

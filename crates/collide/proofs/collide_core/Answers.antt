@@ -1,6 +1,6 @@
 -- `collide_core`: the capacity and the judged hulls pick the definition's case.
 use mathlib.Core.Path.{◌≡◌, sym, ap, ◌∙◌}
-use mathlib.Core.Bool.{true, false}
+use mathlib.Core.Bool.{true}
 use lib.Signed.{lt_z}
 use lib.IntN.{ℤ, pos}
 use Rattle.manifold.specs.declared.Contact.{Contact}

@@ -18,9 +18,9 @@ worked-requires c = let a = c.args in
 
 pub returns : goal.returns
 returns c = let a = c.args in (
-      c.worked.ensures.0 ∙ judged_worked a.size_a a.numbers_a.now a.links_a.now a.size_b
-          a.numbers_b.now a.links_b.now a.transform
-          a.cache c.requires.0 c.requires.1 c.later_refusal-refusal.ensures
-          c.if-refusal-ne0.false,
-      c.worked.ensures.1,
-    )
+  c.worked.ensures.0 ∙ judged_worked a.size_a a.numbers_a.now a.links_a.now a.size_b
+      a.numbers_b.now a.links_b.now a.transform
+      a.cache c.requires.0 c.requires.1 c.later_refusal-refusal.ensures
+      c.if-refusal-ne0.false,
+  c.worked.ensures.1,
+)

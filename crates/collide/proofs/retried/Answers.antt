@@ -33,11 +33,11 @@ returns-in-3 c = let a = c.args in
 
 pub returns-in-4 : goal.returns-in-4
 returns-in-4 c = let a = c.args in (
-      c.cached_edge.ensures ∙ retried_4 a.size_a a.numbers_a.now a.links_a.now a.size_b a.numbers_b.now a.links_b.now
-          a.transform a.cache
-          c.in-4.is,
-      c.requires.3,
-    )
+  c.cached_edge.ensures ∙ retried_4 a.size_a a.numbers_a.now a.links_a.now a.size_b a.numbers_b.now a.links_b.now
+      a.transform a.cache
+      c.in-4.is,
+  c.requires.3,
+)
 
 pub returns-in-0 : goal.returns-in-0
 returns-in-0 c = let a = c.args in

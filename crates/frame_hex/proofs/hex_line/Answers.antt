@@ -1,6 +1,5 @@
 -- The note is 0 as long as all characters so far are digits.
 use borrow.Author.Rules.{rules}
-use Prim.Native.Nat.{◌-◌}
 use Rattle.frame_hex.specs.Hex.{hex_at}
 use Rattle.frame_hex.proofs.Digits.{note_none, note_more, line_bad, line_digits}
 use Rattle.frame_hex.proofs.hex_line.Goals as goal

@@ -1,6 +1,5 @@
 -- Each turn writes the two characters of one byte behind those that stand.
 use borrow.Author.Rules.{rules}
-use Prim.Native.Nat.{◌-◌}
 use Rattle.frame_hex.proofs.Bytes.{hex_begun, hex_turned, hex_ended}
 use Rattle.frame_hex.proofs.put_hex.Goals as goal
 

@@ -1,5 +1,4 @@
 -- The scan, one character a turn.
-use Prim.Native.Nat.{◌-◌}
 use native.Mathlib.Omega.{arith}
 use Rattle.stream_pending.proofs.Scans.{scan_none, scan_more, scan_found, scan_end}
 use Rattle.stream_pending.proofs.line_end.Goals as goal
