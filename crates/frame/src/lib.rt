@@ -1,5 +1,7 @@
 // The answer to one frame of bytes, and to one line of characters, exactly as document 01's section "The hex program" has them (specs/Frames.antt,
 // specs/Lines.antt). A frame is 1 to any number of bytes, its kind first; an answer is 2, 5 or 108.
+#![tactic(auto)]
+
 pub mod lines;
 
 ghost use Rattle.std.specs.Prelude.{◌≤◌, length};

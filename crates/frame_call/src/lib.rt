@@ -1,4 +1,6 @@
 // The call that a frame of kind 12 asks for, made. What stands where in the frame is in specs/Requests.antt.
+#![tactic(auto)]
+
 ghost use Rattle.std.specs.Prelude.{◌≡◌, ◌≤◌, leb, length};
 ghost use Rattle.hull_links.specs.Links.{number_count};
 ghost use Rattle.frame_decode.specs.Hulls.{Sent, numbers_taken};

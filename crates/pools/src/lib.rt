@@ -1,5 +1,7 @@
 // Hulls in pools: one list has the numbers of all hulls, one their links, and six words a hull say where its own stand and how large it is. Where they
 // stand, whether they lie inside, and which rule each hull breaks first; what each says is in specs/Pools.antt.
+#![tactic(auto)]
+
 ghost use Rattle.std.specs.Prelude.{◌≡◌, ◌/◌, ◌<◌, ◌≤◌, length};
 ghost use Rattle.lists.specs.Written.{Wrote, table};
 ghost use Rattle.pools.specs.Pools.{numbers_end, links_end, inside_of, rule_at, rule_of, hulls_in};

@@ -1,4 +1,6 @@
 // The answer to two hulls of the pools, from the rules that are known of them: no hull is judged here. What it is, is in specs/Pairs.antt.
+#![tactic(auto)]
+
 ghost use Rattle.std.specs.Prelude.{◌≡◌, ◌≤◌, length};
 ghost use Rattle.clip_corners.specs.Places.{Roomy};
 ghost use Rattle.pools_pairs.specs.Pairs.{number_rule, pair_answer};

@@ -1,5 +1,7 @@
 // Pairs in lists of numbers: the transform of pair k in seven floats, its cache in two words, its contact in 19 floats, what it is called in bytes.
 // What stands where is in specs/Rows.antt.
+#![tactic(auto)]
+
 ghost use Rattle.std.specs.Prelude.{◌≡◌, ◌+◌, ◌*◌, ◌/◌, ◌<◌, ◌≤◌, length};
 ghost use Rattle.lists.specs.Written.{Wrote};
 ghost use Rattle.pools_rows.specs.Rows.{transform_in, cache_from, cache_in, cache_word, cache_words, vec_floats, point_floats, contact_floats};
