@@ -1,5 +1,5 @@
 -- Each round adds the same count.
-use Rattle.std.proofs.Common.{ℕ, ◌-◌, ◌≤◌}
+use Rattle.std.proofs.Common.{◌-◌, ◌≤◌}
 use Rattle.vector.specs.Awaited.{arbitrary_perp_of}
 use Rattle.units.specs.Limits.{speculative}
 use Rattle.reduce_scores.specs.Images.{images_in}
