@@ -1,7 +1,9 @@
 -- How the program goes through what it reads, turn by turn, and how it ends. Definitions only.
-use Rattle.std.specs.Prelude.{ℕ, ◌+◌, ◌-◌, ◌≤◌, ◌<◌, ◌≡◌, true, false, cond, List, ltb, length, take, drop}
+use Rattle.std.specs.Prelude.{ℕ, ◌+◌, ◌-◌, ◌≤◌, ◌<◌, ◌≡◌, Bool, true, false, cond, List, [], ◌++◌, ltb, length, take, drop}
+use Rattle.std.specs.declared.option.Option.{Option}
+use Rattle.std.specs.Io.KnownBytes.{Keeps, Consumes, IsAtEnd}
 use Rattle.stream_pending.specs.Held.{Ready}
-use Rattle.stream.specs.Told.{told_last}
+use Rattle.stream.specs.Told.{told, held_after, told_last}
 use Rattle.contact.specs.declared.State.{State}
 use Rattle.contact.specs.declared.End.{End}
 
@@ -19,6 +21,16 @@ begins s = cond (ltb s.from s.to) s.from 0
 abbrev pub unread : State → State → List ℕ → List ℕ
 unread s s' chunk = take (s'.to - begins s) (drop (begins s) chunk)
 
+-- what an input has left, where that is known, before and after a turn in which the characters `from` up to `to` are left to tell: to' is where what was
+-- read ends then, and ok says whether no read failed
+pub record Arrives (before after : Option (List ℕ)) (from to to' : ℕ) (ok : Bool) (chunk : List ℕ) : Type 0 where
+  -- nothing is read while characters are left
+  pub left : from < to → Keeps before after
+  -- what a read brings stands first in the chunk, and the input has it no longer
+  pub came : to ≤ from → Consumes before after (take to' chunk)
+  -- a read that brings nothing, and does not fail, found the end
+  pub last : to ≤ from → to' ≡ 0 → ok ≡ true → 0 < length chunk → IsAtEnd after
+
 -- the turn from s to s' leaves out no character that was read
 pub record Turned (s : State) (chunk : List ℕ) (s' : State) (chunk' : List ℕ) : Type 0 where
   -- nothing is read while characters are left
@@ -28,6 +40,10 @@ pub record Turned (s : State) (chunk : List ℕ) (s' : State) (chunk' : List ℕ
   pub moves : begins s < s'.to → 0 < s'.part.taken
   -- the next turn begins right behind those that are told
   pub next : s'.from ≡ begins s + s'.part.taken
+
+-- what is told of an input whose characters are xs, from the first to the last
+abbrev pub told_of : List ℕ → List ℕ
+told_of xs = told [] xs ++ told_last (held_after [] xs)
 
 -- the end, where the characters xs are held
 pub record Ended (xs : List ℕ) (e : End) (out : List ℕ) : Type 0 where

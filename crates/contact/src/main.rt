@@ -1,17 +1,19 @@
-// The program: each line of standard input is answered by one line on standard output (document 01, "The hex program"). No contract can say what is
-// read or written; between a read and a write everything is exact: which characters are told, what is told of them, how much of it goes to the write, and
-// what is held until the next read (specs/Turns.antt, and `Tells` of crate stream).
+// The program: each line of standard input is answered by one line on standard output (document 01, "The hex program"). What a reader gives and what a
+// writer takes is told where their bytes are known: then all of the input is told, and nothing else written (`whole` of `run`). Of standard input and
+// output no contract can say what they give or take; between a read and a write everything is exact all the same: which characters are told, what is told
+// of them, how much of it goes to the write, and what is held until the next read (specs/Turns.antt, and `Tells` of crate stream).
 #![tactic(auto)]
 
-ghost use Rattle.std.specs.Prelude.{true, false, List, ◌≡◌, ℕ, ◌-◌, ◌≤◌, ◌<◌, length};
+ghost use Rattle.std.specs.Prelude.{true, false, List, ◌≡◌, ℕ, ◌-◌, ◌≤◌, ◌<◌, length, take, IfSome};
+ghost use Rattle.std.specs.Io.KnownBytes.{Appends};
 ghost use Rattle.frame.specs.Answers.{Answers};
 ghost use Rattle.stream_pending.specs.Ends.{longest_told};
 ghost use Rattle.stream_pending.specs.Held.{Ready, Held};
 ghost use Rattle.stream.specs.Tells.{Tells};
 ghost use Rattle.stream.specs.Told.{told_last};
-ghost use Rattle.contact.specs.Turns.{Fits, unread, Turned, Ended};
+ghost use Rattle.contact.specs.Turns.{Fits, unread, Arrives, Turned, told_of, Ended};
 
-use std::io::Read;
+use std::io::{Read, Write};
 use std::process::ExitCode;
 use stream::{Part, tell_last, tell_part};
 use stream_pending::Pending;
@@ -24,13 +26,13 @@ pub struct Left {
     pub ok: bool,
 }
 
-// What there is to tell: what is left, or else what one read brings, and how much that is no contract can say. A read that fails ends the input, as
-// does one that brings nothing, and is told on standard error.
-fn refill(rt: &HostRuntime, chunk: &mut [u8], from: usize, to: usize) -> Left
+// What there is to tell: what is left, or else what one read brings. A read that fails ends the input, as does one that brings nothing.
+fn refill<R: Read>(input: &mut R, chunk: &mut [u8], from: usize, to: usize) -> Left
     requires { to ≤ length chunk.old }
-    ensures { (result.from ≤ result.to) × (result.to ≤ length chunk.new)
+    ensures left { (result.from ≤ result.to) × (result.to ≤ length chunk.new)
         × (from < to → (chunk.new ≡ chunk.old) × (result.from ≡ from) × (result.to ≡ to)) × (to ≤ from → result.from ≡ 0)
         × (from < to → result.ok ≡ true) × (result.ok ≡ false → result.to ≡ 0) }
+    ensures arrives { Arrives (R.remaining input.old) (R.remaining input.new) from to result.to result.ok chunk.new }
 {
     if from < to {
         return Left {
@@ -39,20 +41,17 @@ fn refill(rt: &HostRuntime, chunk: &mut [u8], from: usize, to: usize) -> Left
             ok: true,
         };
     }
-    match rt.stdin().read(chunk) {
+    match input.read(chunk) {
         Ok(n) => Left {
             from: 0,
             to: n,
             ok: true,
         },
-        Err(_) => {
-            let _ = rt.eprintln("contact: the input could not be read");
-            Left {
-                from: 0,
-                to: 0,
-                ok: false,
-            }
-        }
+        Err(_) => Left {
+            from: 0,
+            to: 0,
+            ok: false,
+        },
     }
 }
 
@@ -63,19 +62,16 @@ pub struct Written {
     pub ok: bool,
 }
 
-// The first n places of `out` go to one write. Answers leave nowhere else, and that it is these that leave no contract can say. A failure is told on
-// standard error.
-fn write_answers(rt: &HostRuntime, out: &[u8], n: usize) -> Written
+// The first n places of `out` go to one write. Answers leave nowhere else.
+fn write_answers<W: Write>(output: &mut W, out: &[u8], n: usize) -> Written
     requires { n ≤ length out.now }
-    ensures { result.count ≡ n }
+    ensures count { result.count ≡ n }
+    ensures leaves { result.ok ≡ true → Appends (W.contents output.old) (W.contents output.new) (take n out.now) }
 {
     let answers = &out[..n];
-    let ok = match rt.write_all(answers) {
+    let ok = match output.write_all(answers) {
         Ok(()) => true,
-        Err(_) => {
-            let _ = rt.eprintln("contact: the answers could not be written");
-            false
-        }
+        Err(_) => false,
     };
     Written {
         count: answers.len(),
@@ -95,15 +91,24 @@ pub struct State {
 }
 
 // At most one read, what is told of what there is, and at most one write.
-fn turn_once(rt: &HostRuntime, chunk: &mut [u8], line: &mut [u8], out: &mut [u8], s: State) -> State
+fn turn_once<R: Read, W: Write>(
+    input: &mut R,
+    output: &mut W,
+    chunk: &mut [u8],
+    line: &mut [u8],
+    out: &mut [u8],
+    s: State,
+) -> State
     requires { Fits chunk.old line.old s × (longest_told ≤ length out.old) }
-    ensures { Fits chunk.new line.new result × Turned s chunk.old result chunk.new
+    ensures turned { Fits chunk.new line.new result × Turned s chunk.old result chunk.new
         × ((xs : List ℕ) → Held xs line.old s.part.held
         → Tells xs (unread s result chunk.new) out.old result.part line.new out.new) }
+    ensures arrives { Arrives (R.remaining input.old) (R.remaining input.new) s.from s.to result.to result.read chunk.new }
+    ensures leaves { result.ok ≡ true → Appends (W.contents output.old) (W.contents output.new) (take result.part.count out.new) }
 {
     let last = s.part;
     let p = last.held;
-    let left = refill(rt, chunk, s.from, s.to);
+    let left = refill(input, chunk, s.from, s.to);
     let from = left.from;
     let to = left.to;
     if from == to {
@@ -120,7 +125,7 @@ fn turn_once(rt: &HostRuntime, chunk: &mut [u8], line: &mut [u8], out: &mut [u8]
         };
     }
     let part = tell_part(&chunk[from..to], line, p, out);
-    let written = write_answers(rt, out, part.count);
+    let written = write_answers(output, out, part.count);
     let next = from + part.taken;
     let held = part.held;
     State {
@@ -152,14 +157,15 @@ fn fewer(turns: u64, to: usize, ok: bool) -> u64
 
 // What is told at the end of the input, and its write: how many places it was handed, and whether it took them all. Where a write failed nothing further
 // is told.
-fn finish(rt: &HostRuntime, line: &[u8], p: Pending, out: &mut [u8], ok: bool) -> Written
+fn finish<W: Write>(output: &mut W, line: &[u8], p: Pending, out: &mut [u8], ok: bool) -> Written
     requires { Ready line.now p × (longest_told ≤ length out.old) }
-    ensures { (ok ≡ true → (xs : List ℕ) → Held xs line.now p → Answers (told_last xs) out.old result.count out.new)
+    ensures told { (ok ≡ true → (xs : List ℕ) → Held xs line.now p → Answers (told_last xs) out.old result.count out.new)
         × (ok ≡ false → result.count ≡ 0) × (ok ≡ false → result.ok ≡ false) }
+    ensures leaves { result.ok ≡ true → Appends (W.contents output.old) (W.contents output.new) (take result.count out.new) }
 {
     if ok {
         let n = tell_last(line, p, out);
-        return write_answers(rt, out, n);
+        return write_answers(output, out, n);
     }
     Written {
         count: 0,
@@ -167,20 +173,37 @@ fn finish(rt: &HostRuntime, line: &[u8], p: Pending, out: &mut [u8], ok: bool) -
     }
 }
 
-// What is held at the end of the input, how many places were handed to the last write, whether the writes before it took everything, and whether that and
-// every read went well too.
+// Whether the input came to its end, and every read and every write went well.
+fn ended_well(to: usize, read: bool, ok: bool) -> bool
+    ensures { (result ≡ true → (to ≡ 0) × (read ≡ true) × (ok ≡ true)) × (ok ≡ false → result ≡ false) }
+{
+    to == 0 && read && ok
+}
+
+// What is held at the end of the input, how many places were handed to the last write, whether the writes before it took everything, whether every read
+// went well and every write did, and whether all went well to the end of the input.
 #[derive(Clone, Copy)]
 pub struct End {
     pub held: Pending,
     pub count: usize,
     pub ok: bool,
+    pub read: bool,
+    pub wrote: bool,
     pub all: bool,
 }
 
 // A proved loop has to end, and nothing says that the input does: the turns are counted down from a number that no run uses up.
-fn run(rt: &HostRuntime, chunk: &mut [u8], line: &mut [u8], out: &mut [u8]) -> End
+fn run<R: Read, W: Write>(
+    input: &mut R,
+    output: &mut W,
+    chunk: &mut [u8],
+    line: &mut [u8],
+    out: &mut [u8],
+) -> End
     requires { (length line.old ≡ 20000) × (longest_told ≤ length out.old) }
-    ensures { (xs : List ℕ) → Held xs line.new result.held → Ended xs result out.new }
+    ensures ended { (xs : List ℕ) → Held xs line.new result.held → Ended xs result out.new }
+    ensures whole { 0 < length chunk.old → result.all ≡ true → IfSome (R.remaining input.old)
+        (λ xs. Appends (W.contents output.old) (W.contents output.new) (told_of xs)) }
 {
     let mut s = State {
         from: 0,
@@ -194,21 +217,23 @@ fn run(rt: &HostRuntime, chunk: &mut [u8], line: &mut [u8], out: &mut [u8]) -> E
             count: 0,
         },
         ok: true,
-        read: true,
+        read: false,
     };
     let mut turns = u64::MAX;
     while turns > 0 {
-        s = turn_once(rt, chunk, line, out, s);
+        s = turn_once(input, output, chunk, line, out, s);
         turns = fewer(turns, s.to, s.ok);
     }
     let part = s.part;
     let held = part.held;
-    let last = finish(rt, line, held, out, s.ok);
+    let last = finish(output, line, held, out, s.ok);
     End {
         held: held,
         count: last.count,
         ok: s.ok,
-        all: s.read && last.ok,
+        read: s.read,
+        wrote: last.ok,
+        all: ended_well(s.to, s.read, last.ok),
     }
 }
 
@@ -225,12 +250,21 @@ fn large_buffer() -> [u8; 65536]
     [0; 65536]
 }
 
-// Its status is 0 where all that was read was told and taken, else 1. No contract can say what it read and wrote, so there is nothing that it could ensure.
+// Its status is 0 where all that was read was told and taken, else 1, and a sentence on standard error says why. What standard input and output give and
+// take no contract can say, so there is nothing that it could ensure.
 fn main(rt: HostRuntime) -> ExitCode {
+    let mut input = rt.stdin();
+    let mut output = rt.stdout();
     let mut chunk = large_buffer();
     let mut line = line_buffer();
     let mut out = large_buffer();
-    let end = run(&rt, &mut chunk, &mut line, &mut out);
+    let end = run(&mut input, &mut output, &mut chunk, &mut line, &mut out);
+    if !end.read {
+        let _ = rt.eprintln("contact: the input could not be read");
+    }
+    if !end.wrote {
+        let _ = rt.eprintln("contact: the answers could not be written");
+    }
     if end.all {
         ExitCode::SUCCESS
     } else {

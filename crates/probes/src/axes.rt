@@ -39,6 +39,7 @@ fn zero_axis() -> Axis
     }
 }
 
+#[tactic(auto, unfolding(crate::specs::Axes::paired_of))]
 fn found_record(face_a: Axis, face_b: Axis, edge: EdgeAxis) -> Searched
     ensures { result ≡ paired_of face_a face_b edge }
 {
@@ -71,6 +72,7 @@ fn found_record(face_a: Axis, face_b: Axis, edge: EdgeAxis) -> Searched
     }
 }
 
+#[tactic(auto, unfolding(crate::specs::Axes::searched_of))]
 fn as_record(search: Search) -> Searched
     ensures { result ≡ searched_of search }
 {

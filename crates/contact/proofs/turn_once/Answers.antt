@@ -6,8 +6,8 @@ use Rattle.contact.specs.Turns.{begins}
 use Rattle.contact.proofs.Turns.{begins_at}
 use Rattle.contact.proofs.turn_once.Goals as goal
 
-pub returns-then-from-to : goal.returns-then-from-to
-returns-then-from-to c = let f = c.refill-left.ensures in let s = c.args.s in
+pub returns-then-from-to-clause-turned : goal.returns-then-from-to-clause-turned
+returns-then-from-to-clause-turned g c = let f = c.refill-left.ensures.left in let s = c.args.s in
     let b : c.refill-left.result.from ≡ begins s = begins_at s (λ l. (f.2 l).1) f.3 in (
       record { left = f.0; read = f.1; ready = c.requires.0.ready },
       record { kept = λ l. (f.2 l).0; same = λ l. (f.2 l).2; moves = λ l. absurd (omega (arith, b, l, c.if-from-to.true)); next = omega (arith, b) },
