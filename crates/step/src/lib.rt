@@ -1,4 +1,6 @@
 // A step: every hull of the pools is judged once, then every pair is answered with the cache that stands for it. What comes of it is in specs/Step.antt.
+#![tactic(auto)]
+
 ghost use Rattle.std.specs.Prelude.{◌≡◌, ◌+◌, ◌/◌, ◌<◌, ◌≤◌, length};
 ghost use Rattle.lists.specs.Written.{Wrote};
 ghost use Rattle.clip_corners.specs.Places.{Roomy};

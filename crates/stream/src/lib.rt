@@ -2,6 +2,8 @@
 // characters of an unfinished line are held is `stream_pending`'s. Nothing here reads or writes.
 //
 // Lines are found by a scan of the part. One that lies whole in it is answered from there; only one that began in an earlier part is copied together first.
+#![tactic(auto)]
+
 ghost use Rattle.std.specs.Prelude.{List, ◌++◌, ℕ, ◌+◌, ◌≤◌, ◌<◌, length};
 ghost use Rattle.frame.specs.Answers.{Answers};
 ghost use Rattle.frame.specs.Frames.{fault_of};
