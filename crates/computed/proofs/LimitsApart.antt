@@ -34,10 +34,9 @@ use Rattle.axis_faces.specs.Faces.{bias_of, direction_of, exact_of, face_axis_of
 use Rattle.axis_edges.specs.Edges.{dot_right, difference_of, sum_of, edge_of_a, turned_normal, turned_point, edge_of_b, passes_of, parallel_of, between_of}
 use Rattle.axis_edges.specs.Edges.{axis_across_of, edge_separation_of, tried_of, edge_pair_of}
 use Rattle.collide_refusals.specs.Refusals.{question_refusal_of}
-use Rattle.apart.specs.declared.Apart.{Apart}
 use Rattle.apart.specs.Every.{is_far, best_through, through_faces, through_pairs, best_of_all, largest_separation, apart_by_every}
 use Rattle.apart.specs.Question.{refused_question, answered_question, question_of}
-use Rattle.computed.proofs.Rows.{Row, row, is, yes, no, given, said, bits, vec, at}
+use Rattle.computed.proofs.Rows.{Row, row, yes, no, given, said, vec, at}
 use Rattle.computed.proofs.Shapes.{Sample, in_unit, numbers_of, tetrahedron, upright, lying, nothing, point, padding, faced}
 
 -- the largest of these separations, in metres, is that far

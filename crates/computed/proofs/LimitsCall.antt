@@ -1,10 +1,9 @@
 -- Both sides of each limit of document 01's "Refusal numbers", and what each type byte asks for, one row each. Assumes nothing.
 use mathlib.Core.Path.{◌≡◌, refl}
 use mathlib.Core.Bool.{Bool}
-use mathlib.Core.List.{List, [], ◌∷◌, ◌++◌, map}
+use mathlib.Core.List.{List, [], ◌∷◌}
 use Prim.Native.Nat.{ℕ}
 use lib.IntN.{ℤ, pos, negsuc}
-use lib.ListN.{replicate}
 use lib.Ieee.{Float, to_bits}
 use lib.Ieee as Ieee
 use Rattle.root.specs.Root.{isqrt, pattern, root_of}
@@ -55,7 +54,7 @@ use Rattle.collide_cached.specs.Again.{cached_edge_of}
 use Rattle.collide_cached.specs.Ridges.{ridge_of, carried_ridge, cross_over, wide_of, crosses_of, axis_between}
 use Rattle.collide_full.specs.Full.{apart_built, contact_a, contact_b, winner_contact, with_edge, found_contact, after_search, full_of}
 use Rattle.collide.specs.Call.{after_cached, worked_of, collide_of}
-use Rattle.computed.proofs.Rows.{Row, row, is, yes, no, given, said, bits, vec, sizes, at}
+use Rattle.computed.proofs.Rows.{Row, row, is, yes, no, given, said, vec, sizes, at}
 use Rattle.computed.proofs.Shapes.{Sample, in_unit, numbers_of, tetrahedron, upright, lying, nothing, point, padding, faced}
 
 abbrev cache : (separation kind a b hit : ℕ) → SatCache

@@ -24,7 +24,6 @@ use Rattle.collide_refusals.specs.Refusals.{refusal_of}
 use Rattle.collide.specs.Call.{collide_of}
 use Rattle.frame_encode.specs.Bytes.{float_bytes, cache_bytes, answer_bytes}
 use Rattle.lists.specs.Written as Written
-use Rattle.frame_decode.specs.Fields as Fields
 use Rattle.frame_decode.specs.Fields.{signed, size_at}
 use Rattle.frame_decode.specs.Hulls.{links_from, hull_length, numbers_of, links_of, numbers_taken}
 use Rattle.frame_hex.specs.Hex.{hex_digit, digit_value_of, digit_of, hex_at, hex_line, byte_of, hex_of}

@@ -22,8 +22,6 @@ use Rattle.axis_faces.specs.Support.{support_value_of, group_of, splat_of, least
 use Rattle.axis_edges.specs.Edges.{eps, dot_right, passes_of, parallel_of}
 use Rattle.axis_row.specs.inner.Marks.{at_least_eps, fails_first}
 use Rattle.axis_row.specs.inner.Sift.{fails_later}
-use Rattle.axis.specs.declared.AxisApart.{AxisApart}
-use Rattle.axis.specs.declared.Found.{Found}
 use Rattle.axis.specs.declared.Search.{Search}
 use Rattle.axis.specs.Search.{axis_of, apart_of, edge_of, found_of, search_answer_of}
 use Rattle.computed.proofs.Rows.{Row, is, yes, no, given, said, bits, vec, sizes}
