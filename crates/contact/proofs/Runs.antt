@@ -11,7 +11,7 @@ use lib.ListN.{length, take, drop}
 use Rattle.std.proofs.lemmas.List.{take-append-drop, drop-take, drop-drop}
 use Rattle.std.proofs.KnownBytes.{Consumes-nil, Consumes-trans, Consumes-kept, Appends-nil, Appends-trans}
 use Rattle.std.specs.declared.option.Option.{Option}
-use Rattle.std.specs.Io.KnownBytes.{Keeps, Consumes, Appends, IsAtEnd}
+use Rattle.std.specs.Io.KnownBytes.{Consumes, Appends, IsAtEnd}
 use Rattle.frame.specs.Answers.{Answers}
 use Rattle.frame.proofs.Puts.{answer_first}
 use Rattle.stream_pending.specs.Held.{Held}

@@ -1,5 +1,5 @@
 -- Turn by turn what was read is told, held or left, and at the end of the input all of it is told.
-use Rattle.std.proofs.Common.{refl, true, false, ◌≡◌}
+use Rattle.std.proofs.Common.{refl, true, ◌≡◌}
 use native.Mathlib.Omega.{arith}
 use Rattle.stream_pending.proofs.Holds.{held_none, differ}
 use Rattle.contact.proofs.Runs.{nothing_yet, one_more, sure, whole}

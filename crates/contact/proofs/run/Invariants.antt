@@ -1,5 +1,5 @@
 -- What is left and what is held have their room at each turn; what was read is told, held or left.
-use Rattle.std.proofs.Common.{true, ℕ, ◌≡◌, ◌<◌, length}
+use Rattle.std.proofs.Common.{true, ◌≡◌, ◌<◌, length}
 use Rattle.contact.specs.Turns.{Fits}
 use Rattle.contact.proofs.Runs.{Sofar}
 use Rattle.contact.proofs.run.Given as goal
