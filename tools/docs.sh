@@ -52,6 +52,6 @@ done
 
 # No line of code, definition, proof or page is over 160 characters.
 export LC_ALL=C.UTF-8
-while IFS= read -r place; do miss "over 160 characters: $place"; done < <(find crates docs examples README.md CHANGELOG.md \( -name '*.rt' -o -name '*.antt' -o -name '*.md' \) |
+while IFS= read -r place; do miss "over 160 characters: $place"; done < <(find crates docs examples README.md CHANGELOG.md -path 'crates/*/out' -prune -o \( -name '*.rt' -o -name '*.antt' -o -name '*.md' \) -print |
     xargs grep -nE '^.{161,}$' | cut -d: -f1,2)
 exit $bad

@@ -10,7 +10,8 @@ use Rattle.probes.proofs.cuts.probe_reduce_rounds.Given as goal
 
 abbrev pub invariant-loop-i : goal.invariant-loop-i
 invariant-loop-i l = (l.i ≤ l.fn.rounds) × (let images = images_in l.fn.normal l.fn.places l.fn.tags l.fn.from l.fn.n in
-    Summed (contact_of l.fn.normal (points_of (first_picks (speculative l.fn.unit) (arbitrary_perp_of l.fn.normal) l.fn.normal images) images)).count l.total l.i)
+    Summed (contact_of l.fn.normal (points_of (first_picks (speculative l.fn.unit) (arbitrary_perp_of l.fn.normal) l.fn.normal images) images)).count l.total
+    l.i)
 
 abbrev pub decreases-loop-i : goal.decreases-loop-i
 decreases-loop-i l = l.fn.rounds - l.i
