@@ -54,7 +54,7 @@ use Rattle.collide_refusals.specs.Refusals.{refusal_of}
 use Rattle.collide.specs.Call.{after_cached, worked_of, collide_of}
 use Rattle.contactlib.proofs.Keeps.{keeps_call}
 use Rattle.promises.specs.Numbers.{number_of}
-use Rattle.promises.specs.Sources.{Reason, Source, small_capacity, refused, apart, not_touching, face_a_lem, face_b_lem, edges, none, places_on}
+use Rattle.promises.specs.Sources.{Reason, Source, small_capacity, refused, apart, not_touching, from_face_a, from_face_b, edges, none, places_on}
 use Rattle.promises.specs.Sources.{candidates_from, image_from, images_from, places_from, points_taken, normal_from, contact_from, touches, if_touching}
 use Rattle.promises.specs.Sources.{separation_from}
 use Rattle.promises.specs.OneCall.{winner_of, tried_over, or_pair, search_source, full_source, serves, cached_source, cached_edges, work_source, source_of}
@@ -113,8 +113,8 @@ module _ (s : HullSize) (n : List Float) (l : List ℕ) (t : HullSize) (m : List
 
   -- ---- the points of a source are chosen from its images
   own_a : (f v : ℕ) → let normal = (plane_at s n f).normal in let candidates = candidates_of s n l t m k x f v in
-      Chosen (images_from s n l t m k x (face_a_lem f v)) (points_of (picks_on s.unit normal candidates) (images_on normal candidates))
-      (places_from s n l t m k x (face_a_lem f v))
+      Chosen (images_from s n l t m k x (from_face_a f v)) (points_of (picks_on s.unit normal candidates) (images_on normal candidates))
+      (places_from s n l t m k x (from_face_a f v))
   unfolding images_from image_from candidates_from places_from images_on
   own_a f v =
       let normal = (plane_at s n f).normal in
@@ -123,8 +123,8 @@ module _ (s : HullSize) (n : List Float) (l : List ℕ) (t : HullSize) (m : List
 
   -- of face B: its own images, carried
   carried_b : (f v : ℕ) → let normal = (plane_at t m f).normal in let candidates = candidates_of t m k s n l (invert_of x) f v in
-      Chosen (images_from s n l t m k x (face_b_lem f v)) (points_of (picks_on t.unit normal candidates) (map (carried_of x) (images_on normal candidates)))
-      (places_from s n l t m k x (face_b_lem f v))
+      Chosen (images_from s n l t m k x (from_face_b f v)) (points_of (picks_on t.unit normal candidates) (map (carried_of x) (images_on normal candidates)))
+      (places_from s n l t m k x (from_face_b f v))
   unfolding images_from image_from candidates_from places_from images_on
   carried_b f v =
       let normal = (plane_at t m f).normal in
@@ -139,8 +139,8 @@ module _ (s : HullSize) (n : List Float) (l : List ℕ) (t : HullSize) (m : List
 
   pub drawn : (source : Source) → Taken source (points_taken s n l t m k x source)
   unfolding points_taken images_from image_from candidates_from places_from
-  drawn (face_a_lem f v) = subst (Taken (face_a_lem f v)) (own_a f v).same (own_a f v)
-  drawn (face_b_lem f v) = subst (Taken (face_b_lem f v)) (carried_b f v).same (carried_b f v)
+  drawn (from_face_a f v) = subst (Taken (from_face_a f v)) (own_a f v).same (own_a f v)
+  drawn (from_face_b f v) = subst (Taken (from_face_b f v)) (carried_b f v).same (carried_b f v)
   drawn (edges normal a b) = one_chosen (edge_point (nearest_of s n l t m k x a b) normal a b)
   drawn (none why) = none_chosen
 
@@ -149,11 +149,11 @@ module _ (s : HullSize) (n : List Float) (l : List ℕ) (t : HullSize) (m : List
   unfolding contact_from points_taken places_from normal_from contact_of normal_of
   of_none why = refl
 
-  of_face_a : (f v : ℕ) → contact_on_a s.unit (plane_at s n f).normal (candidates_of s n l t m k x f v) ≡ From (face_a_lem f v)
+  of_face_a : (f v : ℕ) → contact_on_a s.unit (plane_at s n f).normal (candidates_of s n l t m k x f v) ≡ From (from_face_a f v)
   unfolding contact_on_a contact_from points_taken normal_from
   of_face_a f v = ap (contact_of (plane_at s n f).normal) (own_a f v).same
 
-  of_face_b : (f v : ℕ) → contact_on_b t.unit x (plane_at t m f).normal (candidates_of t m k s n l (invert_of x) f v) ≡ From (face_b_lem f v)
+  of_face_b : (f v : ℕ) → contact_on_b t.unit x (plane_at t m f).normal (candidates_of t m k s n l (invert_of x) f v) ≡ From (from_face_b f v)
   unfolding contact_on_b contact_from points_taken normal_from
   of_face_b f v = ap (contact_of (neg_of (mul_mv_of (matrix_of x.q) (plane_at t m f).normal))) (carried_b f v).same
 
@@ -186,17 +186,17 @@ module _ (s : HullSize) (n : List Float) (l : List ℕ) (t : HullSize) (m : List
   makes_face source true false built d q = d
   makes_face source false full built d q = absurd (omega (arith, q))
 
-  makes_a : (f v : ℕ) → Makes (face_a_of s n l t m k x f v) (face_a_lem f v)
+  makes_a : (f v : ℕ) → Makes (face_a_of s n l t m k x f v) (from_face_a f v)
   unfolding face_a_of on_face touches candidates_from separation_from
   makes_a f v =
-      makes_face (face_a_lem f v) (ltb v t.vertices) (ltb 64 (length (candidates_of s n l t m k x f v))) _
-      (made_of (face_a_lem f v) _ _ 2 f v (of_face_a f v) refl)
+      makes_face (from_face_a f v) (ltb v t.vertices) (ltb 64 (length (candidates_of s n l t m k x f v))) _
+      (made_of (from_face_a f v) _ _ 2 f v (of_face_a f v) refl)
 
-  makes_b : (f v : ℕ) → Makes (face_b_of s n l t m k x f v) (face_b_lem f v)
+  makes_b : (f v : ℕ) → Makes (face_b_of s n l t m k x f v) (from_face_b f v)
   unfolding face_b_of on_face touches candidates_from separation_from
   makes_b f v =
-      makes_face (face_b_lem f v) (ltb v s.vertices) (ltb 64 (length (candidates_of t m k s n l (invert_of x) f v))) _
-      (made_of (face_b_lem f v) _ _ 3 v f (of_face_b f v) refl)
+      makes_face (from_face_b f v) (ltb v s.vertices) (ltb 64 (length (candidates_of t m k s n l (invert_of x) f v))) _
+      (made_of (from_face_b f v) _ _ 3 v f (of_face_b f v) refl)
 
   made_edges : (normal : Vec3) (a b : ℕ) → Made (edge_contact_of s n l t m k x normal a b) (edges normal a b)
   unfolding edge_contact_of along_of touches separation_from

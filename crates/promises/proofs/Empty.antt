@@ -20,7 +20,7 @@ use Rattle.axis.specs.declared.EdgeAxis.{EdgeAxis}
 use Rattle.axis.specs.declared.Search.{Search}
 use Rattle.collide_cached.specs.Ridges.{ridge_of, carried_ridge, crosses_of}
 use Rattle.promises.specs.Numbers.{number_of}
-use Rattle.promises.specs.Sources.{Source, NoCandidates, face_a_lem, face_b_lem, edges, none, candidates_from, touches, if_touching}
+use Rattle.promises.specs.Sources.{Source, NoCandidates, from_face_a, from_face_b, edges, none, candidates_from, touches, if_touching}
 use Rattle.promises.specs.OneCall.{tried_over, or_pair, search_source, full_source, serves, cached_source, cached_edges, work_source, source_of}
 
 -- "Fewer than 3 left .. not touching"
@@ -36,8 +36,8 @@ module _ (s : HullSize) (n : List Float) (l : List ℕ) (t : HullSize) (m : List
 
   told_touching : (source : Source) → touches s n l t m k x source ≡ true → Told source
   unfolding touches candidates_from
-  told_touching (face_a_lem f v) h q = let some = touching_some _ _ _ h in absurd (omega (arith, some, q))
-  told_touching (face_b_lem f v) h q = let some = touching_some _ _ _ h in absurd (omega (arith, some, q))
+  told_touching (from_face_a f v) h q = let some = touching_some _ _ _ h in absurd (omega (arith, some, q))
+  told_touching (from_face_b f v) h q = let some = touching_some _ _ _ h in absurd (omega (arith, some, q))
   told_touching (edges normal a b) h q = absurd (omega (arith, q))
   told_touching (none why) h q = record { why = why; is = refl }
 

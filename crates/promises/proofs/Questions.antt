@@ -40,22 +40,22 @@ use Rattle.apart.proofs.Axes.{far_is_yes, yes_is_far}
 use Rattle.apart.proofs.Early.{same_yes, axis_is_far}
 use Rattle.promises.specs.Numbers.{Exactly}
 use Rattle.promises.specs.Retired.{NoAxis}
-use Rattle.promises.specs.Sources.{Source, face_a_lem, face_b_lem, edges, none, small_capacity, refused, apart, not_touching, touches, if_touching}
+use Rattle.promises.specs.Sources.{Source, from_face_a, from_face_b, edges, none, small_capacity, refused, apart, not_touching, touches, if_touching}
 use Rattle.promises.specs.OneCall.{winner_of, tried_over, or_pair, search_source, full_source}
 use Rattle.promises.specs.Questions.{StopsApart, ComesToItsEnd}
 use Rattle.promises.proofs.Steps.{full_search, apart_left}
 
 -- ---- the reason that a call has no candidates
 unfoldable says_apart : Source → Bool
-says_apart (face_a_lem f v) = false
-says_apart (face_b_lem f v) = false
+says_apart (from_face_a f v) = false
+says_apart (from_face_b f v) = false
 says_apart (edges normal a b) = false
 says_apart (none small_capacity) = false
 says_apart (none refused) = false
 says_apart (none apart) = true
 says_apart (none not_touching) = false
 
-of_a_face : (z : Bool) (f v g w : ℕ) → says_apart (cond z (face_a_lem f v) (face_b_lem g w)) ≡ false
+of_a_face : (z : Bool) (f v g w : ℕ) → says_apart (cond z (from_face_a f v) (from_face_b g w)) ≡ false
 unfolding says_apart
 of_a_face true f v g w = refl
 of_a_face false f v g w = refl

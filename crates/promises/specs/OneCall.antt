@@ -18,12 +18,12 @@ use Rattle.collide_cached.specs.declared.ridges.Ridge.{Ridge}
 use Rattle.collide_cached.specs.Ridges.{ridge_of, carried_ridge, crosses_of, axis_between}
 use Rattle.collide_cached.specs.Again.{deepest_below_a, separation_from_a, deepest_below_b, separation_from_b}
 use Rattle.promises.specs.Numbers.{number_of}
-use Rattle.promises.specs.Sources.{Source, small_capacity, refused, apart, face_a_lem, face_b_lem, edges, none, places_from, touches, if_touching}
+use Rattle.promises.specs.Sources.{Source, small_capacity, refused, apart, from_face_a, from_face_b, edges, none, places_from, touches, if_touching}
 use Rattle.promises.specs.Sources.{separation_from}
 
 -- "face A wins only if strictly above face B"
 unfoldable pub winner_of : Axis → Axis → Source
-winner_of a b = cond (Ieee.lt b.separation a.separation) (face_a_lem a.index_a a.index_b) (face_b_lem b.index_b b.index_a)
+winner_of a b = cond (Ieee.lt b.separation a.separation) (from_face_a a.index_a a.index_b) (from_face_b b.index_b b.index_a)
 
 -- hull A is (s, n, l), hull B is (t, m, k), of one unit, and x places B in A's frame
 module _ (s : HullSize) (n : List Float) (l : List ℕ) (t : HullSize) (m : List Float) (k : List ℕ) (x : Transform) where
@@ -70,8 +70,8 @@ module _ (s : HullSize) (n : List Float) (l : List ℕ) (t : HullSize) (m : List
       let i = cache.index_a in
       let j = cache.index_b in
       let far = speculative s.unit in
-      cond (eqb cache.kind 2) (cached_source cache (Ieee.le far (separation_from_a s n t m x i)) (face_a_lem i (deepest_below_a s n t m x i)))
-      (cond (eqb cache.kind 3) (cached_source cache (Ieee.le far (separation_from_b s n t m x j)) (face_b_lem j (deepest_below_b s n t m x j)))
+      cond (eqb cache.kind 2) (cached_source cache (Ieee.le far (separation_from_a s n t m x i)) (from_face_a i (deepest_below_a s n t m x i)))
+      (cond (eqb cache.kind 3) (cached_source cache (Ieee.le far (separation_from_b s n t m x j)) (from_face_b j (deepest_below_b s n t m x j)))
       (cond (eqb cache.kind 4) (cached_edges cache (ridge_of s n l i) (carried_ridge x t m k j))
       full_source))
 

@@ -32,8 +32,8 @@ pub data Reason : Type 0 where
 
 pub data Source : Type 0 where
   -- face f of A and vertex v of B; face f of B and vertex v of A
-  face_a_lem : (f v : ℕ) → Source
-  face_b_lem : (f v : ℕ) → Source
+  from_face_a : (f v : ℕ) → Source
+  from_face_b : (f v : ℕ) → Source
   -- half-edges a of A and b of B, along this normal
   edges : (normal : Vec3) (a b : ℕ) → Source
   none : Reason → Source
@@ -61,16 +61,16 @@ module _ (s : HullSize) (n : List Float) (l : List ℕ) (t : HullSize) (m : List
   -- ---- what comes of a source
   -- "What the last cut leaves are the candidates"; "the edge pair's one point is its own candidate and image"
   unfoldable pub candidates_from : Source → List ClipVertex
-  candidates_from (face_a_lem f v) = candidates_of s n l t m k x f v
-  candidates_from (face_b_lem f v) = candidates_of t m k s n l (invert_of x) f v
+  candidates_from (from_face_a f v) = candidates_of s n l t m k x f v
+  candidates_from (from_face_b f v) = candidates_of t m k s n l (invert_of x) f v
   candidates_from (edges normal a b) = edge_point (nearest_of s n l t m k x a b) normal a b ∷ []
   candidates_from (none why) = []
 
   -- "its position less half its separation along the reference normal, with its separation and pair; for face B it is then carried into A's frame and
   -- its pair flipped"
   unfoldable pub image_from : Source → ClipVertex → ClipVertex
-  image_from (face_a_lem f v) = image_of (plane_at s n f).normal
-  image_from (face_b_lem f v) = λ c. carried_of x (image_of (plane_at t m f).normal c)
+  image_from (from_face_a f v) = image_of (plane_at s n f).normal
+  image_from (from_face_b f v) = λ c. carried_of x (image_of (plane_at t m f).normal c)
   image_from (edges normal a b) = λ c. c
   image_from (none why) = λ c. c
 
@@ -79,8 +79,8 @@ module _ (s : HullSize) (n : List Float) (l : List ℕ) (t : HullSize) (m : List
 
   -- which candidates become points, by their places in that list
   unfoldable pub places_from : Source → List ℕ
-  places_from (face_a_lem f v) = places_on s.unit (plane_at s n f).normal (candidates_from (face_a_lem f v))
-  places_from (face_b_lem f v) = places_on t.unit (plane_at t m f).normal (candidates_from (face_b_lem f v))
+  places_from (from_face_a f v) = places_on s.unit (plane_at s n f).normal (candidates_from (from_face_a f v))
+  places_from (from_face_b f v) = places_on t.unit (plane_at t m f).normal (candidates_from (from_face_b f v))
   places_from (edges normal a b) = 0 ∷ []
   places_from (none why) = []
 
@@ -89,8 +89,8 @@ module _ (s : HullSize) (n : List Float) (l : List ℕ) (t : HullSize) (m : List
   points_taken source = map (λ (j : ℕ). point_of j (get_or (images_from source) j past_vertex)) (places_from source)
 
   unfoldable pub normal_from : Source → Vec3
-  normal_from (face_a_lem f v) = (plane_at s n f).normal
-  normal_from (face_b_lem f v) = neg_of (mul_mv_of (matrix_of x.q) (plane_at t m f).normal)
+  normal_from (from_face_a f v) = (plane_at s n f).normal
+  normal_from (from_face_b f v) = neg_of (mul_mv_of (matrix_of x.q) (plane_at t m f).normal)
   normal_from (edges normal a b) = normal
   normal_from (none why) = zero_vec
 
@@ -99,8 +99,8 @@ module _ (s : HullSize) (n : List Float) (l : List ℕ) (t : HullSize) (m : List
 
   -- ---- which sources touch, and how far apart they are; edges touch where the nearest points of their lines lie on both
   unfoldable pub touches : Source → Bool
-  touches (face_a_lem f v) = touch_on s.unit (candidates_from (face_a_lem f v))
-  touches (face_b_lem f v) = touch_on t.unit (candidates_from (face_b_lem f v))
+  touches (from_face_a f v) = touch_on s.unit (candidates_from (from_face_a f v))
+  touches (from_face_b f v) = touch_on t.unit (candidates_from (from_face_b f v))
   touches (edges normal a b) = is_within_segments_of (nearest_of s n l t m k x a b)
   touches (none why) = false
 
@@ -108,7 +108,7 @@ module _ (s : HullSize) (n : List Float) (l : List ℕ) (t : HullSize) (m : List
   if_touching source = cond (touches source) source (none not_touching)
 
   unfoldable pub separation_from : Source → Float
-  separation_from (face_a_lem f v) = stored (least_separation_of (candidates_from (face_a_lem f v)))
-  separation_from (face_b_lem f v) = stored (least_separation_of (candidates_from (face_b_lem f v)))
+  separation_from (from_face_a f v) = stored (least_separation_of (candidates_from (from_face_a f v)))
+  separation_from (from_face_b f v) = stored (least_separation_of (candidates_from (from_face_b f v)))
   separation_from (edges normal a b) = stored (edge_point (nearest_of s n l t m k x a b) normal a b).separation
   separation_from (none why) = float 0
