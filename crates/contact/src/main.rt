@@ -175,7 +175,8 @@ fn finish<W: Write>(output: &mut W, line: &[u8], p: Pending, out: &mut [u8], ok:
 
 // Whether the input came to its end, and every read and every write went well.
 fn ended_well(to: usize, read: bool, ok: bool) -> bool
-    ensures { (result ≡ true → (to ≡ 0) × (read ≡ true) × (ok ≡ true)) × (ok ≡ false → result ≡ false) }
+    ensures { (result ≡ true → (to ≡ 0) × (read ≡ true) × (ok ≡ true)) × (ok ≡ false → result ≡ false)
+        × (to ≡ 0 → read ≡ true → ok ≡ true → result ≡ true) }
 {
     to == 0 && read && ok
 }
