@@ -11,13 +11,13 @@ use Rattle.rotation.specs.Rotation.{Rows, matrix_of, transpose_of}
 use Rattle.hull_links.specs.declared.HullSize.{HullSize}
 use Rattle.hull_links.specs.Tests.{◌or◌, any}
 use Rattle.hull.specs.Numbers.{plane_at}
+use Rattle.manifold.specs.declared.kinds.AxisKind.{AxisKind}
 use Rattle.axis_best.specs.declared.Lead.{Lead}
 use Rattle.axis_best.specs.Leads.{none_of, lead_after}
 use Rattle.axis_faces.specs.declared.Face.{Face}
 use Rattle.axis_faces.specs.declared.Side.{Side}
 use Rattle.axis_faces.specs.Faces.{face_of, face_taken_of, face_search_of}
-use Rattle.axis_edges.specs.declared.EdgeA.{EdgeA}
-use Rattle.axis_edges.specs.declared.EdgeB.{EdgeB}
+use Rattle.axis_edges.specs.declared.Edge.{Edge}
 use Rattle.axis_edges.specs.Edges.{dot_right, passes_of, parallel_of, edge_of_a, edge_of_b, tried_of, edge_pair_of, row_pairs}
 use Rattle.axis_pairs.specs.All.{all_pairs}
 use Rattle.axis.specs.declared.AxisApart.{AxisApart}
@@ -51,7 +51,7 @@ module _ (side : Side) (turn : Rows) (position : Vec3) (s : HullSize) (n : List 
 
 -- ---- the pairs of edges
 module _ (unit : ℕ) where
-  tries_pair : (a : EdgeA) (b : EdgeB) (i j : ℕ) → Tries unit (pair_far unit a b) (edge_pair_of unit a b i j) (edge_pair_of unit a b i j)
+  tries_pair : (a : Edge) (b : Edge) (i j : ℕ) → Tries unit (pair_far unit a b) (edge_pair_of unit a b i j) (edge_pair_of unit a b i j)
   unfolding edge_pair_of tried_of pair_far is_far
   tries_pair a b i j =
       tries_picked unit
@@ -61,7 +61,7 @@ module _ (unit : ℕ) where
       (tries_none unit) (tries_axis unit _ _ _ _))
       (tries_none unit)
 
-  module _ (a : ℕ → EdgeA) (n : ℕ) (b : ℕ → EdgeB) where
+  module _ (a : ℕ → Edge) (n : ℕ) (b : ℕ → Edge) where
     -- one edge of B against those of A
     abbrev row_far : ℕ → Bool
     row_far j = any (λ i. pair_far unit (a i) (b j)) n
@@ -82,7 +82,8 @@ answer_is : (a b e : Lead) → ends_apart (search_answer_of a b e) ≡ (a.apart 
 unfolding search_answer_of ends_apart apart_of found_of ◌or◌
 answer_is a b e = case a.apart b.apart e.apart
   where
-    case : (x y z : Bool) → ends_apart (cond x (apart_of 2 a) (cond y (apart_of 3 b) (cond z (apart_of 4 e) (found_of a b e)))) ≡ (x or y or z)
+    case : (x y z : Bool) → ends_apart (cond x (apart_of AxisKind.FaceA a) (cond y (apart_of AxisKind.FaceB b)
+        (cond z (apart_of AxisKind.Edges e) (found_of a b e)))) ≡ (x or y or z)
     case true y z = refl
     case false true z = refl
     case false false true = refl
@@ -99,7 +100,8 @@ unfolding search_answer_of far_if_apart apart_of found_of
 answer_far far a b e = case a.apart b.apart e.apart
   where
     case : (x y z : Bool) → far a.separation ≡ x → far b.separation ≡ y → far e.separation ≡ z
-        → far_if_apart far (cond x (apart_of 2 a) (cond y (apart_of 3 b) (cond z (apart_of 4 e) (found_of a b e)))) ≡ true
+        → far_if_apart far (cond x (apart_of AxisKind.FaceA a) (cond y (apart_of AxisKind.FaceB b) (cond z (apart_of AxisKind.Edges e) (found_of a b e)))) ≡
+        true
     case true y z p q r = p
     case false true z p q r = q
     case false false true p q r = r

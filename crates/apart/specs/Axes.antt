@@ -8,8 +8,7 @@ use Rattle.hull_links.specs.declared.HullSize.{HullSize}
 use Rattle.hull.specs.Numbers.{plane_at}
 use Rattle.axis_faces.specs.declared.Side.{Side}
 use Rattle.axis_faces.specs.Faces.{face_of}
-use Rattle.axis_edges.specs.declared.EdgeA.{EdgeA}
-use Rattle.axis_edges.specs.declared.EdgeB.{EdgeB}
+use Rattle.axis_edges.specs.declared.Edge.{Edge}
 use Rattle.axis_edges.specs.Edges.{dot_right, passes_of, parallel_of, axis_across_of, edge_separation_of, edge_of_a, edge_of_b}
 use Rattle.apart.specs.Every.{is_far}
 
@@ -18,7 +17,7 @@ unfoldable pub face_far : Side → Rows → Vec3 → HullSize → List Float →
 face_far side turn position s n t m f = is_far s.unit (face_of side turn position t m (plane_at s n f)).separation
 
 -- an edge of A and an edge of B; a pair that fails the edge tests or is near parallel has no axis
-unfoldable pub pair_far : ℕ → EdgeA → EdgeB → Bool
+unfoldable pub pair_far : ℕ → Edge → Edge → Bool
 pair_far unit a b =
     let cba = dot_right b.normal0 a.direction in
     let dba = dot_right b.normal1 a.direction in

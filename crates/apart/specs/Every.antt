@@ -13,8 +13,7 @@ use Rattle.axis_best.specs.declared.Lead.{Lead}
 use Rattle.axis_best.specs.Leads.{none_of}
 use Rattle.axis_faces.specs.declared.Side.{Side}
 use Rattle.axis_faces.specs.Faces.{face_of, face_taken_of}
-use Rattle.axis_edges.specs.declared.EdgeA.{EdgeA}
-use Rattle.axis_edges.specs.declared.EdgeB.{EdgeB}
+use Rattle.axis_edges.specs.declared.Edge.{Edge}
 use Rattle.axis_edges.specs.Edges.{edge_of_a, edge_of_b, edge_pair_of}
 
 -- strictly above the speculative distance of the unit
@@ -31,7 +30,7 @@ unfoldable pub through_faces : Side → Rows → Vec3 → HullSize → List Floa
 through_faces side turn position s n t m = best_through (λ f. face_taken_of side s.unit (face_of side turn position t m (plane_at s n f)) f) s.faces
 
 -- every edge of B, 0 to m - 1, against every edge of A, 0 to n - 1
-unfoldable pub through_pairs : ℕ → (ℕ → EdgeA) → ℕ → (ℕ → EdgeB) → ℕ → Lead → Lead
+unfoldable pub through_pairs : ℕ → (ℕ → Edge) → ℕ → (ℕ → Edge) → ℕ → Lead → Lead
 through_pairs unit a n b m = best_through (λ j. best_through (λ i. edge_pair_of unit (a i) (b j) i j) n) m
 
 -- hull A is (s, n, l), hull B is (t, m, k), and x places B in A's frame

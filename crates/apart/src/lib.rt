@@ -3,16 +3,18 @@
 #![tactic(auto)]
 
 ghost use Rattle.std.specs.Prelude.{◌≡◌};
+ghost use Rattle.collide_outcome.specs.Told.{number_of};
 ghost use Rattle.apart.specs.Question.{refused_question, answered_question, question_of};
 ghost use Rattle.apart.specs.inner.Ends.{ends_apart};
 
 use axis::{Search, compute_separating_axis};
+use collide_outcome::Refusal;
 use collide_refusals::placed_refusal;
 use hull::first_broken_rule;
-use hull_links::HullSize;
+use hull_links::Hull;
 use vector::Transform;
 
-// A status of 0 and whether the hulls are apart, 1 or 0; or the number of a refusal, and 0.
+// As C is handed it: a status of 0 and whether the hulls are apart, 1 or 0; or the number of a refusal, and 0.
 #[repr(C)]
 #[derive(Clone, Copy)]
 pub struct Apart {
@@ -20,10 +22,13 @@ pub struct Apart {
     pub apart: u8,
 }
 
-fn refused(status: u8) -> Apart
-    ensures { result ≡ refused_question status }
+fn refused(refusal: Refusal) -> Apart
+    ensures { result ≡ refused_question (number_of refusal) }
 {
-    Apart { status, apart: 0 }
+    Apart {
+        status: u8::from(refusal),
+        apart: 0,
+    }
 }
 
 // What the search says.
@@ -31,11 +36,11 @@ fn told(found: Search) -> Apart
     ensures { result ≡ answered_question (ends_apart found) }
 {
     match found {
-        Search::Apart(axis) => Apart {
+        Search::Apart(_) => Apart {
             status: 0,
             apart: 1,
         },
-        Search::Found(faces) => Apart {
+        Search::Found(_) => Apart {
             status: 0,
             apart: 0,
         },
@@ -43,30 +48,18 @@ fn told(found: Search) -> Apart
 }
 
 // The hulls are A and, placed in A's frame by the transform, B. Refused by 1, 2, 17 or 3, in this order; a padding lane that wins is no refusal here.
-pub fn are_apart(
-    numbers_a: &[f32],
-    links_a: &[u8],
-    size_a: HullSize,
-    numbers_b: &[f32],
-    links_b: &[u8],
-    size_b: HullSize,
-    transform: Transform,
-) -> Apart
-    ensures { result ≡ question_of size_a numbers_a.now links_a.now size_b numbers_b.now
-        links_b.now transform }
+pub fn are_apart(a: &Hull, b: &Hull, transform: Transform) -> Apart
+    ensures { result ≡ question_of a.now.size a.now.numbers.now a.now.links.now b.now.size b.now.numbers.now
+        b.now.links.now transform }
 {
-    if first_broken_rule(numbers_a, links_a, size_a) != 0 {
-        return refused(1);
+    if first_broken_rule(a).is_some() {
+        return refused(Refusal::HullA);
     }
-    if first_broken_rule(numbers_b, links_b, size_b) != 0 {
-        return refused(2);
+    if first_broken_rule(b).is_some() {
+        return refused(Refusal::HullB);
     }
-    let refusal = placed_refusal(size_a, size_b, transform);
-    if refusal != 0 {
-        return refused(refusal);
+    match placed_refusal(a.size, b.size, transform) {
+        Err(refusal) => refused(refusal),
+        Ok(()) => told(compute_separating_axis(a, b, transform)),
     }
-    let found = compute_separating_axis(
-        numbers_a, links_a, size_a, numbers_b, links_b, size_b, transform,
-    );
-    told(found)
 }

@@ -15,8 +15,7 @@ use Rattle.axis_best.specs.Leads.{none_of, new_best, better_of}
 use Rattle.axis_best.proofs.Searches.{holds}
 use Rattle.axis_faces.specs.declared.Side.{Side}
 use Rattle.axis_faces.specs.Faces.{face_taken_of, face_search_of}
-use Rattle.axis_edges.specs.declared.EdgeA.{EdgeA}
-use Rattle.axis_edges.specs.declared.EdgeB.{EdgeB}
+use Rattle.axis_edges.specs.declared.Edge.{Edge}
 use Rattle.axis_edges.specs.Edges.{passes_of, parallel_of, tried_of, edge_pair_of, row_pairs, dot_right}
 use Rattle.axis_pairs.specs.All.{all_pairs}
 use Rattle.axis.specs.Ranges.{EdgeInRange, InRange}
@@ -42,7 +41,7 @@ module _ (P : Lead → Type 0) where
     unfolding face_search_of face_taken_of
     side_b_keeps new = holds P _ none_of s.faces none (λ f h lead p. better_keeps _ _ _ _ f lead (new f _ h) p)
 
-  pair_keeps : (unit : ℕ) (a : EdgeA) (b : EdgeB) (i j : ℕ) (lead : Lead) → New (2 * i) (2 * j) → P lead → P (edge_pair_of unit a b i j lead)
+  pair_keeps : (unit : ℕ) (a : Edge) (b : Edge) (i j : ℕ) (lead : Lead) → New (2 * i) (2 * j) → P lead → P (edge_pair_of unit a b i j lead)
   unfolding edge_pair_of tried_of
   pair_keeps unit a b i j lead new p =
       picked P
@@ -52,7 +51,7 @@ module _ (P : Lead → Type 0) where
       (better_keeps unit _ _ (2 * i) (2 * j) lead new p))
       p
 
-  pairs_keep : (unit : ℕ) (a : ℕ → EdgeA) (n : ℕ) (b : ℕ → EdgeB) (m : ℕ) → P none_of → ((i j : ℕ) → i < n → j < m → New (2 * i) (2 * j))
+  pairs_keep : (unit : ℕ) (a : ℕ → Edge) (n : ℕ) (b : ℕ → Edge) (m : ℕ) → P none_of → ((i j : ℕ) → i < n → j < m → New (2 * i) (2 * j))
       → P (all_pairs unit a n b m)
   unfolding all_pairs row_pairs
   pairs_keep unit a n b m none new =

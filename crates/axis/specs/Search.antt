@@ -1,16 +1,16 @@
 -- "The axis search answers .. an axis apart with its separation, face A and face B with the edge pair": one of these two, since request k showed that
 -- on accepted input each side has a face (proofs/Always.antt). Definitions only.
-use Rattle.std.specs.Prelude.{ℕ, ◌/◌, cond, List, Float}
+use Rattle.std.specs.Prelude.{ℕ, ◌/◌, cond, List, Float, Option, Some, None}
 use Rattle.vector.specs.declared.Transform.{Transform}
 use Rattle.rotation.specs.Rotation.{matrix_of, transpose_of}
 use Rattle.hull_links.specs.declared.HullSize.{HullSize}
+use Rattle.manifold.specs.declared.kinds.AxisKind.{AxisKind}
 use Rattle.axis_best.specs.declared.Lead.{Lead}
 use Rattle.axis_faces.specs.declared.Side.{Side}
 use Rattle.axis_faces.specs.Faces.{face_search_of}
 use Rattle.axis_edges.specs.Edges.{edge_of_a, edge_of_b}
 use Rattle.axis_pairs.specs.All.{all_pairs}
 use Rattle.axis.specs.declared.Axis.{Axis}
-use Rattle.axis.specs.declared.EdgeAxis.{EdgeAxis}
 use Rattle.axis.specs.declared.Search.{Search}
 
 -- the axis that leads
@@ -18,12 +18,12 @@ unfoldable pub axis_of : Lead → Axis
 axis_of lead = record { normal = lead.normal; separation = lead.separation; index_a = lead.index_a; index_b = lead.index_b }
 
 -- the hulls are apart along it
-unfoldable pub apart_of : ℕ → Lead → Search
+unfoldable pub apart_of : AxisKind → Lead → Search
 apart_of kind lead = Search.Apart (record { kind = kind; separation = lead.separation; index_a = lead.index_a; index_b = lead.index_b })
 
 -- the pair of edges, or none
-unfoldable pub edge_of : Lead → EdgeAxis
-edge_of lead = cond lead.found (EdgeAxis.Pair (axis_of lead)) EdgeAxis.None
+unfoldable pub edge_of : Lead → Option Axis
+edge_of lead = cond lead.found (Some (axis_of lead)) None
 
 -- both faces, and the pair of edges
 unfoldable pub found_of : Lead → Lead → Lead → Search
@@ -31,7 +31,8 @@ found_of a b edge = Search.Found (record { face_a = axis_of a; face_b = axis_of 
 
 -- a stop among A's faces, B's faces or the pairs of edges, in this order; else what was found
 unfoldable pub search_answer_of : Lead → Lead → Lead → Search
-search_answer_of a b edge = cond a.apart (apart_of 2 a) (cond b.apart (apart_of 3 b) (cond edge.apart (apart_of 4 edge) (found_of a b edge)))
+search_answer_of a b edge =
+    cond a.apart (apart_of AxisKind.FaceA a) (cond b.apart (apart_of AxisKind.FaceB b) (cond edge.apart (apart_of AxisKind.Edges edge) (found_of a b edge)))
 
 -- the three searches
 unfoldable pub side_of_a : HullSize → List Float → HullSize → List Float → Transform → Lead

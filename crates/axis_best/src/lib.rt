@@ -8,7 +8,8 @@ ghost use Rattle.axis_best.specs.Leads.{none_of, better_of};
 use units::speculative_distance;
 use vector::Vec3;
 
-// `apart` says that the search has stopped at this axis. Where nothing was found, the separation is minus infinity and the rest is zero.
+// `apart` says that the search has stopped at this axis. Where nothing was found, the separation is minus infinity and the rest is zero. No Option:
+// minus infinity is below the first axis as each axis is below a better one, so `better` has one test for both.
 #[derive(Clone, Copy)]
 pub struct Lead {
     pub found: bool,
@@ -37,7 +38,7 @@ pub fn none() -> Lead
 }
 
 // The axis takes the lead where its separation is strictly above the best before it, and stops the search where it is strictly above the speculative
-// distance of the unit too.
+// distance of the unit too. Its parts come one by one: a record of them would be made for each axis and kept for few.
 pub fn better(
     unit: usize,
     normal: Vec3,

@@ -1,1 +1,1 @@
-pub mod Ready
+pub mod Vectors

@@ -13,8 +13,7 @@ use Rattle.hull_links.specs.Links.{origin, face}
 use Rattle.hull.specs.Numbers.{vertex_at, plane_at}
 use Rattle.axis_best.specs.declared.Lead.{Lead}
 use Rattle.axis_best.specs.Leads.{better_of, lead_after}
-use Rattle.axis_edges.specs.declared.EdgeA.{EdgeA}
-use Rattle.axis_edges.specs.declared.EdgeB.{EdgeB}
+use Rattle.axis_edges.specs.declared.Edge.{Edge}
 
 -- ---- the edges
 
@@ -30,7 +29,7 @@ unfoldable pub sum_of : Vec3 → Vec3 → Vec3
 sum_of a b = record { x = a.x ⊕ b.x; y = a.y ⊕ b.y; z = a.z ⊕ b.z }
 
 -- half-edges 2i and 2i + 1 are edge i: direction, the normals of its two faces, first vertex
-unfoldable pub edge_of_a : HullSize → List Float → List ℕ → ℕ → EdgeA
+unfoldable pub edge_of_a : HullSize → List Float → List ℕ → ℕ → Edge
 edge_of_a s n l i =
     record {
       direction = difference_of (vertex_at s n (origin s l (2 * i + 1))) (vertex_at s n (origin s l (2 * i)));
@@ -47,7 +46,7 @@ unfoldable pub turned_point : Rows → Vec3 → Vec3 → Vec3
 turned_point r p v =
     record { x = Ieee.neg (dot_right (row_of r 0) v ⊕ p.x); y = Ieee.neg (dot_right (row_of r 1) v ⊕ p.y); z = Ieee.neg (dot_right (row_of r 2) v ⊕ p.z) }
 
-unfoldable pub edge_of_b : Rows → Vec3 → HullSize → List Float → List ℕ → ℕ → EdgeB
+unfoldable pub edge_of_b : Rows → Vec3 → HullSize → List Float → List ℕ → ℕ → Edge
 edge_of_b r p s n l j =
     let from = turned_point r p (vertex_at s n (origin s l (2 * j))) in
     let to = turned_point r p (vertex_at s n (origin s l (2 * j + 1))) in
@@ -92,13 +91,13 @@ unfoldable pub edge_separation_of : Vec3 → Vec3 → Vec3 → Float
 edge_separation_of axis a b = Ieee.neg (dot_right (sum_of a b) axis)
 
 -- a pair that has passed: unless near parallel, its axis against the best before it; the numbers are those of the half-edges, twice the edges'
-unfoldable pub tried_of : ℕ → Float → Float → EdgeA → EdgeB → ℕ → ℕ → Lead → Lead
+unfoldable pub tried_of : ℕ → Float → Float → Edge → Edge → ℕ → ℕ → Lead → Lead
 tried_of unit cba dba a b i j lead =
     let axis = axis_across_of cba dba b.normal0 b.normal1 in
     cond (parallel_of cba dba a.direction) lead (better_of unit axis (edge_separation_of axis a.vertex b.vertex) (2 * i) (2 * j) lead)
 
 -- edge i of A and edge j of B
-unfoldable pub edge_pair_of : ℕ → EdgeA → EdgeB → ℕ → ℕ → Lead → Lead
+unfoldable pub edge_pair_of : ℕ → Edge → Edge → ℕ → ℕ → Lead → Lead
 edge_pair_of unit a b i j lead =
     let cba = dot_right b.normal0 a.direction in
     let dba = dot_right b.normal1 a.direction in
@@ -107,5 +106,5 @@ edge_pair_of unit a b i j lead =
     cond (passes_of cba dba adc bdc) (tried_of unit cba dba a b i j lead) lead
 
 -- A's edges 0 to n - 1 against B's edge j
-unfoldable pub row_pairs : ℕ → (ℕ → EdgeA) → ℕ → EdgeB → ℕ → Lead → Lead
+unfoldable pub row_pairs : ℕ → (ℕ → Edge) → ℕ → Edge → ℕ → Lead → Lead
 row_pairs unit a n b j lead = lead_after (λ i. edge_pair_of unit (a i) b i j) lead n

@@ -4,32 +4,24 @@
 
 ghost use Rattle.std.specs.Prelude.{◌≡◌, ◌+◌, ◌*◌, ◌<◌};
 ghost use Rattle.hull_links.specs.Links.{NumbersFit};
-ghost use Rattle.axis_edges.specs.Edges.{dot_right, difference_of, sum_of, edge_of_a, parallel_of, between_of, axis_across_of, edge_separation_of, tried_of};
+ghost use Rattle.axis_edges.specs.Edges.{dot_right, edge_of_a, parallel_of, between_of, axis_across_of, edge_separation_of, tried_of};
 ghost use Rattle.axis_edges.specs.inner.Ready.{EdgesIn};
 
 use axis_best::Lead;
-use hull_links::HullSize;
+use hull_links::Hull;
 use vector::Vec3;
+use vector::arithmetic::{add, length_squared, mul_add, sub};
 use vector::scalar::max_float;
 
 // Edges this near to parallel have no axis between them.
 const PARALLEL_EDGE_TOL: f32 = 0.005;
 
-// An edge of A: its direction, the normals of its two faces and its first vertex.
+// An edge: its direction, the normals of its two faces and its first vertex. An edge of A stands as it is, an edge of B in A's frame and negated.
 #[derive(Clone, Copy)]
-pub struct EdgeA {
+pub struct Edge {
     pub direction: Vec3,
     pub normal0: Vec3,
     pub normal1: Vec3,
-    pub vertex: Vec3,
-}
-
-// An edge of B in A's frame, negated: the normals of its two faces, its direction and its first vertex.
-#[derive(Clone, Copy)]
-pub struct EdgeB {
-    pub normal0: Vec3,
-    pub normal1: Vec3,
-    pub direction: Vec3,
     pub vertex: Vec3,
 }
 
@@ -40,41 +32,20 @@ pub fn dot_right(a: Vec3, b: Vec3) -> f32
     a.x * b.x + (a.y * b.y + a.z * b.z)
 }
 
-pub fn difference(a: Vec3, b: Vec3) -> Vec3
-    ensures { result ≡ difference_of a b }
-{
-    Vec3 {
-        x: a.x - b.x,
-        y: a.y - b.y,
-        z: a.z - b.z,
-    }
-}
-
-fn sum(a: Vec3, b: Vec3) -> Vec3
-    ensures { result ≡ sum_of a b }
-{
-    Vec3 {
-        x: a.x + b.x,
-        y: a.y + b.y,
-        z: a.z + b.z,
-    }
-}
-
 // Edge i of A.
-pub fn edge_of_a(numbers: &[f32], links: &[u8], size: HullSize, i: usize) -> EdgeA
-    requires { NumbersFit size numbers.now × EdgesIn size links.now × (2 * i + 1 < size.half_edges) }
-    ensures { result ≡ edge_of_a size numbers.now links.now i }
+pub fn edge_of_a(hull: &Hull, i: usize) -> Edge
+    requires { NumbersFit hull.now.size hull.now.numbers.now × EdgesIn hull.now.size hull.now.links.now
+        × (2 * i + 1 < hull.now.size.half_edges) }
+    ensures { result ≡ edge_of_a hull.now.size hull.now.numbers.now hull.now.links.now i }
 {
-    let from = hull::vertex_at(numbers, size, hull_links::origin_of(links, size, 2 * i));
-    let to = hull::vertex_at(numbers, size, hull_links::origin_of(links, size, 2 * i + 1));
-    let plane0 = hull::plane_at(numbers, size, hull_links::face_of(links, size, 2 * i));
-    let plane1 = hull::plane_at(numbers, size, hull_links::face_of(links, size, 2 * i + 1));
-    let normal0 = plane0.normal;
-    let normal1 = plane1.normal;
-    EdgeA {
-        direction: difference(to, from),
-        normal0,
-        normal1,
+    let from = hull::vertex_at(hull, hull.origin_of(2 * i));
+    let to = hull::vertex_at(hull, hull.origin_of(2 * i + 1));
+    let plane0 = hull::plane_at(hull, hull.face_of(2 * i));
+    let plane1 = hull::plane_at(hull, hull.face_of(2 * i + 1));
+    Edge {
+        direction: sub(to, from),
+        normal0: plane0.normal,
+        normal1: plane1.normal,
         vertex: from,
     }
 }
@@ -82,8 +53,7 @@ pub fn edge_of_a(numbers: &[f32], links: &[u8], size: HullSize, i: usize) -> Edg
 fn parallel(cba: f32, dba: f32, direction: Vec3) -> bool
     ensures { result ≡ parallel_of cba dba direction }
 {
-    let d = direction;
-    let tolerance = PARALLEL_EDGE_TOL * PARALLEL_EDGE_TOL * (d.x * d.x + d.y * d.y + d.z * d.z);
+    let tolerance = PARALLEL_EDGE_TOL * PARALLEL_EDGE_TOL * length_squared(direction);
     max_float(cba * cba, dba * dba) <= tolerance
 }
 
@@ -91,14 +61,10 @@ fn parallel(cba: f32, dba: f32, direction: Vec3) -> bool
 fn between(t: f32, c: Vec3, d: Vec3) -> Vec3
     ensures { result ≡ between_of t c d }
 {
-    Vec3 {
-        x: c.x + t * (d.x - c.x),
-        y: c.y + t * (d.y - c.y),
-        z: c.z + t * (d.z - c.z),
-    }
+    mul_add(c, t, sub(d, c))
 }
 
-// The unit vector between B's two normals that is square to both edges.
+// The unit vector between B's two normals that is square to both edges. Not by `mul_sv`, which has the factors the other way round.
 fn axis(cba: f32, dba: f32, c: Vec3, d: Vec3) -> Vec3
     ensures { result ≡ axis_across_of cba dba c d }
 {
@@ -115,7 +81,7 @@ fn axis(cba: f32, dba: f32, c: Vec3, d: Vec3) -> Vec3
 fn separation(axis: Vec3, a: Vec3, b: Vec3) -> f32
     ensures { result ≡ edge_separation_of axis a b }
 {
-    -dot_right(sum(a, b), axis)
+    -dot_right(add(a, b), axis)
 }
 
 // Edge i of A and edge j of B, which have passed the three tests of signs: unless they are near parallel, their axis against the best before it.
@@ -123,8 +89,8 @@ pub fn tried(
     unit: usize,
     cba: f32,
     dba: f32,
-    a: EdgeA,
-    b: EdgeB,
+    a: Edge,
+    b: Edge,
     i: usize,
     j: usize,
     lead: Lead,

@@ -1,6 +1,6 @@
 -- The loop over faces: each face gives the support search what it asks for, its parts together are the face, and the turns make the whole search.
 -- Assumes nothing.
-use mathlib.Core.Path.{◌≡◌, sym, ap, ◌∙◌, subst}
+use mathlib.Core.Path.{◌≡◌, refl, sym, ap, ◌∙◌, subst}
 use mathlib.Core.Bool.{true, false}
 use mathlib.Core.List.{List}
 use Prim.Native.Nat.{ℕ, ◌+◌, ◌<◌, ◌≤◌}
@@ -10,6 +10,7 @@ use Rattle.vector.specs.declared.Vec3.{Vec3}
 use Rattle.vector.specs.declared.Plane.{Plane}
 use Rattle.vector.specs.declared.Aabb.{Aabb}
 use Rattle.vector.specs.Within.{VecWithin}
+use Rattle.vector.specs.Arithmetic.{dot_of}
 use Rattle.vector.specs.Shape.{center_of, extents_of}
 use Rattle.vector.proofs.Within.{center_within, extents_within}
 use Rattle.rotation.specs.Rotation.{Rows}
@@ -25,6 +26,11 @@ use Rattle.axis_faces.specs.Faces.{bias_of, direction_of, exact_of, face_axis_of
 use Rattle.axis_faces.specs.Faces.{face_search_of}
 use Rattle.axis_faces.specs.inner.Ready.{SupportReady, Facing, FacesReady}
 use Rattle.axis_faces.proofs.Starts.{direction_within, bias_within}
+
+-- how far the support vertex lies along the direction is a dot
+pub dot_exact : (d v : Vec3) → dot_of d v ≡ exact_of d v
+unfolding dot_of exact_of
+dot_exact d v = refl
 
 module _ {turn : Rows} {position : Vec3} {s : HullSize} {n : List Float} {t : HullSize} {m : List Float} where
   pub direction_near : Facing turn position s n t m → (f : ℕ) → f < s.faces → VecWithin 5 15 (direction_of turn (plane_at s n f).normal)

@@ -3,7 +3,6 @@ use Prim.Native.Nat.{ℕ, ◌+◌, ◌*◌, ◌<◌, ◌≤◌}
 use mathlib.Core.List.{List}
 use mathlib.Core.Path.{◌≡◌, sym, ap, ◌∙◌, subst}
 use native.Mathlib.Omega.{arith}
-use native.Mathlib.Nat.{le_antisymm, not-suc-le-zero}
 use borrow.Author.Count.{below_more}
 use lib.Seq.{get_or-set_same, get_or-set_other}
 use lib.ListN.{length, get_or, set, length-set}
@@ -68,9 +67,6 @@ pub row_same : {v : Vec3} {n width at : ℕ} {table : List Float} (g : ℕ → V
 row_same {v} g lists h e r = record { room = omega (arith, r.room, h); each = λ k q. r.each k (omega (arith, q, h)) ∙ ap (dot_right v) (e.each k q) }
 
 -- ---- two rows in one pass
-pub no_row : {v : Vec3} {g : ℕ → Vec3} {at : ℕ} {table : List Float} → at ≤ length table → Row v g 0 at table
-no_row h = record { room = omega (arith, h); each = λ k q. absurd (not-suc-le-zero q) }
-
 module _ {g : ℕ → Vec3} {n at behind i : ℕ} {table : List Float} (v w : Vec3) (x y : Float) (a : Row v g i at table) (b : Row w g i behind table)
     (apart : at + n ≤ behind) (room : behind + n ≤ length table) (h : i < n) (e : x ≡ dot_right v (g i)) (d : y ≡ dot_right w (g i)) where
   abbrev one : List Float
@@ -100,8 +96,3 @@ module _ {g : ℕ → Vec3} {n at behind i : ℕ} {table : List Float} (v w : Ve
           (get_or-set_same one (behind + i) y nan (omega (arith, length-set table (at + i) x, room, h)) ∙ d);
     },
   )
-
-pub two_done : {g : ℕ → Vec3} {n at behind : ℕ} {table : List Float} (v w : Vec3) (i : ℕ) → i ≤ n → n ≤ i → Row v g i at table × Row w g i behind table
-    → Row v g n at table × Row w g n behind table
-two_done {g} {n} {at} {behind} {table} v w i h k r =
-    subst (λ (m : ℕ). Row v g m at table × Row w g m behind table) (le_antisymm h k) r

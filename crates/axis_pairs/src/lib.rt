@@ -12,89 +12,65 @@ ghost use Rattle.axis_pairs.specs.All.{all_pairs};
 ghost use Rattle.axis_pairs.specs.inner.Pairs.{edge_in, Table, BothRows, ScanReady};
 
 use axis_best::Lead;
-use axis_edges::EdgeB;
-use hull_links::HullSize;
+use axis_edges::Edge;
+use axis_row::{TwoRows, Work};
+use hull_links::Hull;
 use vector::Vec3;
+use vector::arithmetic::sub;
+
+// The vectors that the edge phase reads, each kind as three lists of coordinates: the directions of A's edges, the normals of A's faces, and the
+// normals of B's faces and B's vertices in A's frame, negated.
+#[derive(Clone, Copy)]
+struct Lists {
+    directions: [f32; 384],
+    normals: [f32; 384],
+    turned: [f32; 384],
+    points: [f32; 384],
+}
 
 // Edge j of B, from the lists of B's normals and vertices in A's frame.
-fn edge_of_b(normals: &[f32], points: &[f32], links: &[u8], size: HullSize, j: usize) -> EdgeB
-    requires { EdgesIn size links.now × (2 * j + 1 < size.half_edges) × (length normals.now ≡ 384) × (length points.now ≡ 384) }
-    ensures { result ≡ edge_in normals.now points.now size links.now j }
+fn edge_of_b(lists: &Lists, b: &Hull, j: usize) -> Edge
+    requires { EdgesIn b.now.size b.now.links.now × (2 * j + 1 < b.now.size.half_edges) }
+    ensures { result ≡ edge_in lists.now.turned lists.now.points b.now.size b.now.links.now j }
 {
-    let normal0 = axis_lists::vector_in(normals, hull_links::face_of(links, size, 2 * j));
-    let normal1 = axis_lists::vector_in(normals, hull_links::face_of(links, size, 2 * j + 1));
-    let from = axis_lists::vector_in(points, hull_links::origin_of(links, size, 2 * j));
-    let to = axis_lists::vector_in(points, hull_links::origin_of(links, size, 2 * j + 1));
-    EdgeB {
-        normal0,
-        normal1,
-        direction: axis_edges::difference(to, from),
+    let from = axis_lists::vector_in(&lists.points, b.origin_of(2 * j));
+    let to = axis_lists::vector_in(&lists.points, b.origin_of(2 * j + 1));
+    Edge {
+        direction: sub(to, from),
+        normal0: axis_lists::vector_in(&lists.turned, b.face_of(2 * j)),
+        normal1: axis_lists::vector_in(&lists.turned, b.face_of(2 * j + 1)),
         vertex: from,
     }
 }
 
 // Every normal of B along every edge of A, `width` places to a face.
-fn fill_table(normals: &[f32], faces: usize, directions: &[f32], width: usize, table: &mut [f32])
-    requires { (faces ≤ 128) × (width ≤ 128) × (length normals.now ≡ 384) × (length directions.now ≡ 384)
-        × (faces * width ≤ length table.old) }
+fn fill_table(lists: &Lists, faces: usize, width: usize, table: &mut [f32])
+    requires { (faces ≤ 128) × (width ≤ 128) × (faces * width ≤ length table.old) }
     ensures { (length table.new ≡ length table.old)
-        × Table normals.now faces (vector_in directions.now) width table.new }
+        × Table lists.now.turned faces (vector_in lists.now.directions) width table.new }
 {
-    let mut f = 0;
-    let mut at = 0;
-    while f < faces {
-        axis_lists::fill_row(
-            axis_lists::vector_in(normals, f),
-            directions,
-            width,
-            table,
-            at,
-        );
-        f += 1;
-        at += width;
+    for f in 0..faces {
+        let normal = axis_lists::vector_in(&lists.turned, f);
+        axis_lists::fill_row(normal, &lists.directions, width, table, f * width);
     }
 }
 
-fn empty_row() -> [f32; 128]
-    ensures { 128 ≡ length result }
-{
-    [0.0f32; 128]
-}
-
-fn empty_list() -> [u8; 128]
-    ensures { 128 ≡ length result }
-{
-    [0u8; 128]
-}
-
-fn three_lists() -> [f32; 384]
-    ensures { 384 ≡ length result }
-{
-    [0.0f32; 384]
-}
-
 // Whether there is room for every row, as for two logs; the table holds them then.
-fn fill_whole(
-    normals: &[f32],
-    faces: usize,
-    directions: &[f32],
-    width: usize,
-    table: &mut [f32],
-) -> bool
-    requires { (faces ≤ 128) × (width ≤ 128) × (length normals.now ≡ 384) × (length directions.now ≡ 384) × (length table.old ≡ 1024) }
+fn fill_whole(lists: &Lists, faces: usize, width: usize, table: &mut [f32]) -> bool
+    requires { (faces ≤ 128) × (width ≤ 128) × (length table.old ≡ 1024) }
     ensures { (result ≡ leb (faces * width) 1024) × (length table.new ≡ 1024)
-        × (result ≡ true → Table normals.now faces (vector_in directions.now) width table.new) }
+        × (result ≡ true → Table lists.now.turned faces (vector_in lists.now.directions) width table.new) }
 {
     if 1024 < faces * width {
         return false;
     }
-    fill_table(normals, faces, directions, width, table);
+    fill_table(lists, faces, width, table);
     true
 }
 
 // Where the rows of the two faces of an edge of B begin.
 #[derive(Clone, Copy)]
-struct Rows {
+struct Places {
     first: usize,
     second: usize,
 }
@@ -105,24 +81,25 @@ fn rows_of(
     whole: bool,
     first: usize,
     second: usize,
-    b: EdgeB,
-    directions: &[f32],
+    b: Edge,
+    lists: &Lists,
     width: usize,
     table: &mut [f32],
-) -> Rows
-    requires { (width ≤ 128) × (length directions.now ≡ 384) × (length table.old ≡ 1024)
-        × (whole ≡ true → BothRows b (vector_in directions.now) width (first * width) (second * width) table.old) }
+) -> Places
+    requires { (width ≤ 128) × (length table.old ≡ 1024)
+        × (whole ≡ true → BothRows b (vector_in lists.now.directions) width (first * width) (second * width) table.old) }
     ensures { (length table.new ≡ 1024) × (whole ≡ true → table.new ≡ table.old)
-        × BothRows b (vector_in directions.now) width result.first result.second table.new }
+        × BothRows b (vector_in lists.now.directions) width result.first result.second table.new }
 {
+    let directions = &lists.directions;
     if whole {
-        return Rows {
+        return Places {
             first: first * width,
             second: second * width,
         };
     }
     axis_lists::fill_two_rows(b.normal0, b.normal1, directions, width, table, 0, 128);
-    Rows {
+    Places {
         first: 0,
         second: 128,
     }
@@ -132,139 +109,81 @@ fn rows_of(
 fn scan_rows(
     whole: bool,
     width: usize,
-    directions: &[f32],
+    lists: &Lists,
+    a: &Hull,
     n: usize,
-    numbers: &[f32],
-    links: &[u8],
-    size: HullSize,
-    normals: &[f32],
-    turned: &[f32],
-    points: &[f32],
-    links_b: &[u8],
-    size_b: HullSize,
+    b: &Hull,
     m: usize,
     table: &mut [f32],
 ) -> Lead
-    requires { ScanReady size numbers.now links.now n normals.now turned.now points.now size_b links_b.now m
-        × Three (λ k. (edge_of_a size numbers.now links.now k).direction) n directions.now × (n ≤ width) × (width ≤ 128)
-        × (length table.old ≡ 1024) × (whole ≡ true → Table turned.now size_b.faces (vector_in directions.now) width table.old) }
-    ensures { result ≡ all_pairs size.unit (edge_of_a size numbers.now links.now) n
-        (edge_in turned.now points.now size_b links_b.now) m }
+    requires ready { ScanReady a.now.size a.now.numbers.now a.now.links.now n lists.now.normals lists.now.turned lists.now.points
+        b.now.size b.now.links.now m }
+    requires stand { Three (λ k. (edge_of_a a.now.size a.now.numbers.now a.now.links.now k).direction) n lists.now.directions
+        × (n ≤ width) × (width ≤ 128) × (length table.old ≡ 1024)
+        × (whole ≡ true → Table lists.now.turned b.now.size.faces (vector_in lists.now.directions) width table.old) }
+    ensures { result ≡ all_pairs a.now.size.unit (edge_of_a a.now.size a.now.numbers.now a.now.links.now) n
+        (edge_in lists.now.turned lists.now.points b.now.size b.now.links.now) m }
 {
-    let mut along = empty_row();
-    let mut list = empty_list();
-    let mut out = empty_list();
+    let mut work = Work {
+        along: [0.0f32; 128],
+        list: [0u8; 128],
+        out: [0u8; 128],
+    };
     let mut lead = axis_best::none();
-    let mut j = 0;
-    while j < m {
-        let b = edge_of_b(turned, points, links_b, size_b, j);
-        let first = hull_links::face_of(links_b, size_b, 2 * j);
-        let second = hull_links::face_of(links_b, size_b, 2 * j + 1);
-        let rows = rows_of(whole, first, second, b, directions, width, table);
-        lead = axis_row::scan_row(
-            table,
-            rows.first,
-            rows.second,
+    for j in 0..m {
+        let edge = edge_of_b(lists, b, j);
+        let first = b.face_of(2 * j);
+        let second = b.face_of(2 * j + 1);
+        let places = rows_of(whole, first, second, edge, lists, width, table);
+        let rows = TwoRows {
+            table: &*table,
+            p: places.first,
+            q: places.second,
             width,
             n,
-            numbers,
-            links,
-            size,
-            normals,
-            b,
-            j,
-            lead,
-            &mut along,
-            &mut list,
-            &mut out,
-        );
+        };
+        lead = axis_row::scan_row(&rows, a, &lists.normals, edge, j, lead, &mut work);
         if lead.apart {
             return lead;
         }
-        j += 1;
     }
     lead
 }
 
-// How many places a row of n edges has: eights, so that no edge is done alone. What stands above the edges is not looked at.
-fn width_of(n: usize) -> usize
-    requires { n ≤ 128 }
-    ensures { result ≡ (n + 7) / 8 * 8 }
-{
-    (n + 7) / 8 * 8
-}
-
-fn empty_table() -> [f32; 1024]
-    ensures { 1024 ≡ length result }
-{
-    [0.0f32; 1024]
-}
-
 // The rows are scanned, in a table that holds all of them for a small pair and two at a time for a large one. It has 1,024 places whatever the hulls
 // are: room for every row of the largest would be 64 KB of the caller's stack.
-fn scan(
-    directions: &[f32],
-    n: usize,
-    numbers: &[f32],
-    links: &[u8],
-    size: HullSize,
-    normals: &[f32],
-    turned: &[f32],
-    points: &[f32],
-    links_b: &[u8],
-    size_b: HullSize,
-    m: usize,
-) -> Lead
-    requires { ScanReady size numbers.now links.now n normals.now turned.now points.now size_b links_b.now m
-        × Three (λ k. (edge_of_a size numbers.now links.now k).direction) n directions.now }
-    ensures { result ≡ all_pairs size.unit (edge_of_a size numbers.now links.now) n
-        (edge_in turned.now points.now size_b links_b.now) m }
+fn scan(lists: &Lists, a: &Hull, n: usize, b: &Hull, m: usize) -> Lead
+    requires ready { ScanReady a.now.size a.now.numbers.now a.now.links.now n lists.now.normals lists.now.turned lists.now.points
+        b.now.size b.now.links.now m }
+    requires stand { Three (λ k. (edge_of_a a.now.size a.now.numbers.now a.now.links.now k).direction) n lists.now.directions }
+    ensures { result ≡ all_pairs a.now.size.unit (edge_of_a a.now.size a.now.numbers.now a.now.links.now) n
+        (edge_in lists.now.turned lists.now.points b.now.size b.now.links.now) m }
 {
-    let width = width_of(n);
-    let mut table = empty_table();
-    let whole = fill_whole(turned, size_b.faces, directions, width, &mut table);
-    scan_rows(
-        whole, width, directions, n, numbers, links, size, normals, turned, points, links_b,
-        size_b, m, &mut table,
-    )
+    // In eights, so that no edge is done alone. What stands above the edges is not looked at.
+    let width = n.next_multiple_of(8);
+    let mut table = [0.0f32; 1024];
+    let whole = fill_whole(lists, b.size.faces, width, &mut table);
+    scan_rows(whole, width, lists, a, n, b, m, &mut table)
 }
 
 // All pairs of an edge of A and an edge of B, with B turned by r and moved to `position`.
-pub fn search_edges(
-    numbers: &[f32],
-    links: &[u8],
-    size: HullSize,
-    numbers_b: &[f32],
-    links_b: &[u8],
-    size_b: HullSize,
-    r: [[f32; 3]; 3],
-    position: Vec3,
-) -> Lead
-    requires { NumbersFit size numbers.now × EdgesIn size links.now × NumbersFit size_b numbers_b.now × EdgesIn size_b links_b.now }
-    ensures { result ≡ all_pairs size.unit (edge_of_a size numbers.now links.now) (size.half_edges / 2)
-        (edge_of_b r position size_b numbers_b.now links_b.now) (size_b.half_edges / 2) }
+pub fn search_edges(a: &Hull, b: &Hull, r: [[f32; 3]; 3], position: Vec3) -> Lead
+    requires { NumbersFit a.now.size a.now.numbers.now × EdgesIn a.now.size a.now.links.now × NumbersFit b.now.size b.now.numbers.now
+        × EdgesIn b.now.size b.now.links.now }
+    ensures { result ≡ all_pairs a.now.size.unit (edge_of_a a.now.size a.now.numbers.now a.now.links.now) (a.now.size.half_edges / 2)
+        (edge_of_b r position b.now.size b.now.numbers.now b.now.links.now) (b.now.size.half_edges / 2) }
 {
-    let n = size.half_edges / 2;
-    let m = size_b.half_edges / 2;
-    let mut directions = three_lists();
-    axis_lists::directions(numbers, links, size, n, &mut directions);
-    let mut normals = three_lists();
-    axis_lists::normals(numbers, size, &mut normals);
-    let mut turned = three_lists();
-    axis_lists::turned_normals(r, numbers_b, size_b, &mut turned);
-    let mut points = three_lists();
-    axis_lists::turned_points(r, position, numbers_b, size_b, &mut points);
-    scan(
-        &directions,
-        n,
-        numbers,
-        links,
-        size,
-        &normals,
-        &turned,
-        &points,
-        links_b,
-        size_b,
-        m,
-    )
+    let n = a.size.half_edges / 2;
+    let m = b.size.half_edges / 2;
+    let mut lists = Lists {
+        directions: [0.0f32; 384],
+        normals: [0.0f32; 384],
+        turned: [0.0f32; 384],
+        points: [0.0f32; 384],
+    };
+    axis_lists::directions(a, n, &mut lists.directions);
+    axis_lists::normals(a, &mut lists.normals);
+    axis_lists::turned_normals(r, b, &mut lists.turned);
+    axis_lists::turned_points(r, position, b, &mut lists.points);
+    scan(&lists, a, n, b, m)
 }

@@ -4,7 +4,7 @@ use mathlib.Core.Path.{◌≡◌, refl, sym, ap, ◌∙◌, subst}
 use mathlib.Core.Bool.{Bool, true, false, cond}
 use mathlib.Core.List.{List, [], ◌∷◌, ◌++◌}
 use native.Mathlib.Omega.{arith}
-use native.Mathlib.Nat.{le_antisymm, not-suc-le-zero}
+use native.Mathlib.Nat.{not-suc-le-zero}
 use native.Mathlib.Numerals.{add-one}
 use borrow.Author.Count.{below_more}
 use lib.Dec.{eqb}
@@ -60,16 +60,10 @@ module _ (fails : ℕ → Bool) where
         counted = q ∙ cc (m.counted, e, length_more i, add-one i);
       }
 
-  pub ends : (n i count : ℕ) (marks : List ℕ) → i ≤ n → n ≤ i → Marked fails i count marks → Marked fails n count marks
-  ends n i count marks h k m = subst (λ (x : ℕ). Marked fails x count marks) (le_antisymm h k) m
-
   pub bounded : (i count : ℕ) (marks : List ℕ) → Marked fails i count marks → count ≤ i
   bounded i count marks m = omega (arith, m.counted, few_pass i)
 
   -- ---- what the marks tell
-  pub small : (n count : ℕ) (marks : List ℕ) → Marked fails n count marks → (k : ℕ) → k < n → get_or marks k 0 ≤ 1
-  small n count marks m k h = subst (λ (x : ℕ). x ≤ 1) (sym (m.each k h)) (bit (fails k))
-
   pub told : (n count : ℕ) (marks : List ℕ) → Marked fails n count marks → (k : ℕ) → k < n → unmarked marks k ≡ fails k
   unfolding unmarked
   told n count marks m k h = ap (λ (x : ℕ). eqb x 0) (m.each k h) ∙ by (fails k)

@@ -12,9 +12,9 @@ use Rattle.hull_links.specs.declared.HullSize.{HullSize}
 use Rattle.hull_links.specs.Links.{face}
 use Rattle.axis_best.specs.declared.Lead.{Lead}
 use Rattle.axis_best.specs.Leads.{lead_after}
+use Rattle.axis_best.proofs.Searches.{goes_on}
 use Rattle.hull.specs.Numbers.{plane_at}
-use Rattle.axis_edges.specs.declared.EdgeA.{EdgeA}
-use Rattle.axis_edges.specs.declared.EdgeB.{EdgeB}
+use Rattle.axis_edges.specs.declared.Edge.{Edge}
 use Rattle.axis_edges.specs.Edges.{dot_right, edge_of_a, passes_of, tried_of, edge_pair_of, row_pairs}
 use Rattle.axis_lists.specs.inner.Lists.{Three, Row}
 use Rattle.axis_lists.specs.inner.Fills.{Filled, dot_at}
@@ -33,7 +33,7 @@ in_order false true z t s = refl
 in_order false false true t s = refl
 in_order false false false t s = refl
 
-pair_tests : (unit : ℕ) (a : EdgeA) (b : EdgeB) (i j : ℕ) (cba dba adc bdc : Float) (s : Lead)
+pair_tests : (unit : ℕ) (a : Edge) (b : Edge) (i j : ℕ) (cba dba adc bdc : Float) (s : Lead)
     → cba ≡ dot_right b.normal0 a.direction → dba ≡ dot_right b.normal1 a.direction → adc ≡ dot_right a.normal0 b.direction
     → bdc ≡ dot_right a.normal1 b.direction
     → edge_pair_of unit a b i j s ≡ cond (at_least_eps (cba ⊗ dba)) s (cond (at_least_eps (adc ⊗ bdc) || at_least_eps (cba ⊗ bdc)) s
@@ -43,13 +43,24 @@ pair_tests unit a b i j cba dba adc bdc s p q u v =
     rw (← p, ← q, ← u, ← v) (in_order (at_least_eps (cba ⊗ dba)) (at_least_eps (adc ⊗ bdc)) (at_least_eps (cba ⊗ bdc)) (tried_of unit cba dba a b i j s) s)
 
 -- a pair that has passed is tried with what the code has read
-pub tries : (unit : ℕ) (table : List Float) (p q : ℕ) (a : ℕ → EdgeA) (b : EdgeB) (j i k : ℕ) (x : EdgeA) (s r : Lead)
+pub tries : (unit : ℕ) (table : List Float) (p q : ℕ) (a : ℕ → Edge) (b : Edge) (j i k : ℕ) (x : Edge) (s r : Lead)
     → r ≡ tried_of unit (get_or table (p + k) nan) (get_or table (q + k) nan) x b k j s → x ≡ a k → k ≡ i → r ≡ tried_at unit table p q a b j i s
 unfolding tried_at
 tries unit table p q a b j i k x s r e u v =
     e
-    ∙ ap (λ (y : EdgeA). tried_of unit (get_or table (p + k) nan) (get_or table (q + k) nan) y b k j s) u
+    ∙ ap (λ (y : Edge). tried_of unit (get_or table (p + k) nan) (get_or table (q + k) nan) y b k j s) u
     ∙ ap (λ (m : ℕ). tried_at unit table p q a b j m s) v
+
+-- one turn of the search over a list: the pair that the list names is tried
+abbrev pub listed : ℕ → List Float → ℕ → ℕ → (ℕ → Edge) → Edge → ℕ → List ℕ → ℕ → Lead → Lead
+listed unit table p q a b j list m = tried_at unit table p q a b j (get_or list m 0)
+
+pub list_turn : (unit : ℕ) (table : List Float) (p q : ℕ) (a : ℕ → Edge) (b : Edge) (j : ℕ) (list : List ℕ) (start : Lead) (k : ℕ) (lead next : Lead)
+    (x : Edge) (i : ℕ) → lead ≡ lead_after (listed unit table p q a b j list) start k → lead.apart ≡ false
+    → next ≡ tried_of unit (get_or table (p + i) nan) (get_or table (q + i) nan) x b i j lead → x ≡ a i → i ≡ get_or list k 0
+    → next ≡ lead_after (listed unit table p q a b j list) start (k + 1)
+list_turn unit table p q a b j list start k lead next x i e g h u v =
+    goes_on (listed unit table p q a b j list) start k lead next e g (tries unit table p q a b j (get_or list k 0) i x lead next h u v)
 
 -- ---- A's normals along B's edge
 along_is : (d : Vec3) (g : ℕ → Vec3) (n : ℕ) (normals was is : List Float) → n ≤ length was → Three g n normals → Filled (dot_at d normals) 0 n was is
@@ -59,11 +70,11 @@ along_is d g n normals was is h t fill f q =
     let row : Row d g n 0 is = row_same g normals (omega arith) t (row_made d normals (omega (arith, h)) fill) in
     ap (λ (i : ℕ). get_or is i nan) z ∙ row.each f q ∙ dot_turns d (g f)
 
-module _ (s : HullSize) (n : List Float) (l : List ℕ) (count : ℕ) (normals : List Float) (b : EdgeB) (j : ℕ) (start : Lead)
+module _ (s : HullSize) (n : List Float) (l : List ℕ) (count : ℕ) (normals : List Float) (b : Edge) (j : ℕ) (start : Lead)
     (table : List Float) (p q : ℕ)
     (ready : RowReady s n l count normals b j start table p q) (list : List ℕ) (m : ℕ) (front : take m list ≡ passing (fails_first table p q)
     (up_to count)) where
-  abbrev a : ℕ → EdgeA
+  abbrev a : ℕ → Edge
   a = edge_of_a s n l
 
   -- no edge of A passes the first test

@@ -4,7 +4,7 @@ use mathlib.Core.Path.{◌≡◌, refl, ap, ◌∙◌}
 use mathlib.Core.Bool.{Bool, true, false, cond}
 use mathlib.Core.List.{List, [], ◌∷◌, ◌++◌}
 use native.Mathlib.Omega.{arith}
-use native.Mathlib.Nat.{le_refl, le_antisymm}
+use native.Mathlib.Nat.{le_refl}
 use native.Mathlib.Numerals.{add-one}
 use lib.ListN.{length, take, set, get_or, length-set}
 use lib.Seq.{take-suc, take-set-le, take-suc-set}
@@ -54,9 +54,6 @@ module _ (fails : ℕ → Bool) where
   unfolding up_to
   up_goes_on i m l next s h q = rw (ap up_to (add-one i)) (more (up_to i) i m l i next s (omega (arith, s.few)) q)
 
-  pub up_ends : (n i m : ℕ) (l : List ℕ) → i ≤ n → n ≤ i → Sifted fails (up_to i) i m l → (m ≤ n) × (length l ≡ 128) × (take m l ≡ passing fails (up_to n))
-  up_ends n i m l h k s = (omega (arith, s.few, h), s.long, s.front ∙ ap (λ (z : ℕ). passing fails (up_to z)) (le_antisymm h k))
-
   -- ---- of the first k of a list
   module _ (xs : List ℕ) where
     pub list_begins : (l : List ℕ) → length l ≡ 128 → Sifted fails (take 0 xs) 0 0 l
@@ -68,7 +65,3 @@ module _ (fails : ℕ → Bool) where
     list_goes_on k m l next s h u q =
         let e : take (k + 1) xs ≡ take k xs ++ (get_or xs k 0 ∷ []) = rw (add-one k) (take-suc xs k 0 u) in
         rw e (more (take k xs) k m l (get_or xs k 0) next s (omega (arith, s.few)) q)
-
-    pub list_ends : (n k m : ℕ) (l : List ℕ) → k ≤ n → n ≤ k → Sifted fails (take k xs) k m l → (m ≤ n) × (length l ≡ 128)
-        × (take m l ≡ passing fails (take n xs))
-    list_ends n k m l h u s = (omega (arith, s.few, h), s.long, s.front ∙ ap (λ (z : ℕ). passing fails (take z xs)) (le_antisymm h u))

@@ -27,7 +27,7 @@ use Rattle.clip_corners.specs.declared.Kept.{Kept}
 use Rattle.clip_cut.specs.Cut.{cut_of}
 use Rattle.clip_corners.specs.Places.{Roomy, Half, corners_in, Laid}
 use Rattle.clip_corners.specs.Standing.{Standing}
-use Rattle.clip_corners.proofs.Laying.{lays_none, lays_on, still_roomy}
+use Rattle.clip_corners.proofs.Laying.{lays_none, lays_on}
 use Rattle.clip_corners.proofs.Reading.{all_counted, all_back}
 use Rattle.clip.specs.Candidates.{corner_of, built_of, side_plane_of, cut_on, goes_on, cut_round}
 
@@ -48,7 +48,6 @@ pub record Building (s : HullSize) (l : List ℕ) (start : ℕ) (f : ℕ → Cli
 pub record Round (s : HullSize) (n : List Float) (l : List ℕ) (face start : ℕ) (all : List ClipVertex) (places : List Float) (tags : List ℕ)
     (p m e : ℕ) : Type 0 where
   pub here : Along (next s l) s.half_edges start e
-  pub room : Roomy places tags
   pub half : Half p
   pub some : 0 < m
   pub most : m ≤ 64
@@ -65,7 +64,6 @@ pub record Turned (s : HullSize) (n : List Float) (l : List ℕ) (face start : �
 
 -- the polygon that is to be cut is laid in the first half
 pub record Begun (places : List Float) (tags : List ℕ) (m : ℕ) (built : List ClipVertex) : Type 0 where
-  pub room : Roomy places tags
   pub some : 0 < m
   pub most : m ≤ 64
   pub are : corners_in places tags 0 m ≡ built
@@ -93,7 +91,6 @@ module _ (s : HullSize) (n : List Float) (l : List ℕ) (t : Transform) (referen
       let z = built_some s n l t reference face in
       let c : m ≡ length built = all_counted places tags 0 built places' tags' m room (omega arith) x in
       record {
-        room = still_roomy places tags 0 0 built places' tags' m x room;
         some = omega (arith, c, z.0);
         most = omega (arith, c, z.1);
         are = all_back places tags 0 built places' tags' m room (omega arith) x (omega (arith, c, z.1));
@@ -140,9 +137,6 @@ module _ (s : HullSize) (n : List Float) (l : List ℕ) (ok : Accepted s n l) (f
       more_stored : Laid n₀ t₀ 0 0 more places' tags' k'
       more_stored = lays_on n₀ t₀ 0 0 b.done places tags k b.stored (v ∷ []) places' tags' k' x
 
-      pub build_roomy : Roomy n₀ t₀ → Roomy places' tags'
-      build_roomy room = still_roomy n₀ t₀ 0 0 more places' tags' k' more_stored room
-
       more_whole : (es : List ℕ) → es ≡ take (63 - k) (left_of s l start e) → more ++ map f es ≡ map f (take 64 (start ∷ left_of s l start start))
       more_whole es r =
           let z : 64 - k ≡ suc (63 - k) = omega (arith, b.room) in
@@ -181,7 +175,6 @@ module _ (s : HullSize) (n : List Float) (l : List ℕ) (ok : Accepted s n l) (f
       → Round s n l face start (cut_round s n l face (face_ring s l face) (corners_in places tags 0 m)) places tags 0 m start
   round_begins places tags m built b = record {
     here = face_along;
-    room = b.room;
     half = inl refl;
     some = b.some;
     most = b.most;
@@ -236,7 +229,6 @@ module _ (s : HullSize) (n : List Float) (l : List ℕ) (ok : Accepted s n l) (f
         pub round_goes : (t ≡ start → ⊥) → Round s n l face start all places tags k.from k.count t
         round_goes nay = record {
           here = goes_along _ _ _ e t c.here w nay ok.next_in;
-          room = c.stand.roomy;
           half = c.half;
           some = omega (arith, g);
           most = h;

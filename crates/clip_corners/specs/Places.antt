@@ -1,4 +1,4 @@
--- Corners in two lent lists: corner p is four numbers and four bytes, both from place 4 p on. Definitions only.
+-- Corners in two lists: corner p is four numbers and four bytes, both from place 4 p on. Definitions only.
 use Rattle.std.specs.Prelude.{ℕ, zero, suc, ◌+◌, ◌*◌, ◌≤◌, ◌≡◌, cond, ◌⊎◌, List, [], ◌∷◌, length, get_or, set, ltb, Float}
 use Rattle.std.specs.Float.{nan}
 use Rattle.manifold.specs.declared.ClipVertex.{ClipVertex}

@@ -14,8 +14,8 @@ use Rattle.vector.specs.Shape.{plane_separation_of}
 use Rattle.manifold.specs.declared.ClipVertex.{ClipVertex}
 use Rattle.manifold.specs.Records.{zero_vertex, past_vertex}
 use Rattle.clip_cut.specs.Cut.{kept, beyond, leaving_of, entering_of, put_out_of, cut_from, last_of, cut_of}
-use Rattle.clip_corners.specs.Places.{Roomy, SideBySide, corner_in, corners_in, Laid}
-use Rattle.clip_corners.proofs.Laying.{lays_none, lays_on, still_roomy, beside_stays}
+use Rattle.clip_corners.specs.Places.{SideBySide, corner_in, corners_in, Laid}
+use Rattle.clip_corners.proofs.Laying.{lays_none, lays_on, beside_stays}
 use Rattle.clip_corners.proofs.Reading.{length_in, corner_in_lem}
 
 -- ---- what an edge puts out, by the arms of the definition
@@ -108,11 +108,7 @@ module _ (n : List Float) (t : List ℕ) (p m : ℕ) (plane : Plane) (edge : ℕ
         whole = ap (λ (v : ClipVertex). cut_from plane edge reference v polygon) last;
       }
 
-  module _ (room : Roomy n t) (sides : SideBySide p q) (most : m ≤ 64) (n' : List Float) (t' : List ℕ) (v1 : ClipVertex) (d1 : Float) (k i : ℕ)
-      (c : Cutting n' t' v1 d1 k i) where
-    pub roomy : Roomy n' t'
-    roomy = still_roomy n t q 0 c.done n' t' k c.stored room
-
+  module _ (sides : SideBySide p q) (most : m ≤ 64) (n' : List Float) (t' : List ℕ) (v1 : ClipVertex) (d1 : Float) (k i : ℕ) (c : Cutting n' t' v1 d1 k i) where
     module _ (inside : i < m) where
       -- the polygon that is cut stands as it stood
       stays : corner_in n' t' (p + i) ≡ corner_in n t (p + i)

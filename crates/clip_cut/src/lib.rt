@@ -2,12 +2,12 @@
 // What each edge of the polygon puts out, and the whole cut as a list, is in specs/Cut.antt.
 #![tactic(auto)]
 
-ghost use Rattle.std.specs.Prelude.{◌≡◌, List, ℕ, ◌≤◌, ◌<◌, length};
+ghost use Rattle.std.specs.Prelude.{◌≡◌, List, ℕ, ◌≤◌, ◌<◌};
 ghost use Rattle.clip_cut.specs.Cut.{meeting_of, leaving_of, entering_of, put_out_of, cut_of, all_kept};
-ghost use Rattle.clip_corners.specs.Places.{Roomy, SideBySide, Half, corners_in, Laid};
+ghost use Rattle.clip_corners.specs.Places.{SideBySide, Half, corners_in, Laid};
 ghost use Rattle.clip_corners.specs.Standing.{Standing};
 
-use clip_corners::{Kept, corner_at, put};
+use clip_corners::{Corners, Kept};
 use manifold::{ClipVertex, FeaturePair};
 use vector::arithmetic::{mul_add, sub};
 use vector::shape::plane_separation;
@@ -71,8 +71,7 @@ fn entering(
 
 // What the edge from v1 to v2 puts out, behind the k corners that stand from corner p on.
 fn put_out(
-    numbers: &mut [f32],
-    tags: &mut [u8],
+    corners: &mut Corners,
     p: usize,
     k: usize,
     v1: ClipVertex,
@@ -82,24 +81,24 @@ fn put_out(
     edge: u8,
     reference: Plane,
 ) -> usize
-    requires { Roomy numbers.old tags.old × (p ≤ 64) × (k < 128) }
-    ensures { Laid numbers.old tags.old p k (put_out_of edge reference v1 d1 v2 d2) numbers.new tags.new result }
+    requires { (p ≤ 64) × (k < 128) }
+    ensures { Laid corners.old.numbers corners.old.tags p k (put_out_of edge reference v1 d1 v2 d2) corners.new.numbers corners.new.tags result }
 {
     if d1 <= 0.0 {
         if d2 <= 0.0 {
-            return put(numbers, tags, p, k, v2);
+            return corners.put(p, k, v2);
         }
         if d2 > 0.0 {
             let v = leaving(v1, d1, v2, d2, edge, reference);
-            return put(numbers, tags, p, k, v);
+            return corners.put(p, k, v);
         }
         return k;
     }
     if d1 > 0.0 {
         if d2 <= 0.0 {
             let v = entering(v1, d1, v2, d2, edge, reference);
-            let m = put(numbers, tags, p, k, v);
-            return put(numbers, tags, p, m, v2);
+            let m = corners.put(p, k, v);
+            return corners.put(p, m, v2);
         }
     }
     k
@@ -108,8 +107,7 @@ fn put_out(
 // The cut of the polygon of n corners from corner p on, by a plane that stands on half-edge `edge` of the reference face. What it leaves stands from
 // corner q on; the return says how many corners that is, and those past the 64th are not kept.
 pub fn clip_polygon(
-    numbers: &mut [f32],
-    tags: &mut [u8],
+    corners: &mut Corners,
     p: usize,
     n: usize,
     plane: Plane,
@@ -117,44 +115,35 @@ pub fn clip_polygon(
     reference: Plane,
     q: usize,
 ) -> usize
-    requires { Roomy numbers.old tags.old × SideBySide p q × (0 < n) × (n ≤ 64) }
-    ensures { Laid numbers.old tags.old q 0
-        (cut_of plane edge reference (corners_in numbers.old tags.old p n)) numbers.new tags.new result }
+    requires { SideBySide p q × (0 < n) × (n ≤ 64) }
+    ensures { Laid corners.old.numbers corners.old.tags q 0
+        (cut_of plane edge reference (corners_in corners.old.numbers corners.old.tags p n)) corners.new.numbers corners.new.tags result }
 {
-    let mut v1 = corner_at(numbers, tags, p + (n - 1));
+    let mut v1 = corners.corner_at(p + (n - 1));
     let mut d1 = plane_separation(plane, v1.position);
     let mut k = 0;
-    let mut i = 0;
-    while i < n {
-        let v2 = corner_at(numbers, tags, p + i);
+    for i in 0..n {
+        let v2 = corners.corner_at(p + i);
         let d2 = plane_separation(plane, v2.position);
-        k = put_out(numbers, tags, q, k, v1, d1, v2, d2, edge, reference);
+        k = put_out(corners, q, k, v1, d1, v2, d2, edge, reference);
         v1 = v2;
         d1 = d2;
-        i += 1;
     }
     k
 }
 
 // Whether a cut by this plane leaves the polygon of n corners from corner p on as it is: all its corners are kept. Whatever their tags, which are
 // not read.
-pub fn keeps_all(numbers: &[f32], p: usize, n: usize, plane: Plane) -> bool
-    requires { (length numbers.now ≡ 512) × (p ≤ 64) × (n ≤ 64) }
-    ensures { (t : List ℕ) → result ≡ all_kept plane (corners_in numbers.now t p n) }
+pub fn keeps_all(corners: &Corners, p: usize, n: usize, plane: Plane) -> bool
+    requires { (p ≤ 64) × (n ≤ 64) }
+    ensures { (t : List ℕ) → result ≡ all_kept plane (corners_in corners.now.numbers t p n) }
 {
-    let mut i = 0;
-    while i < n {
-        let a = 4 * (p + i);
-        let position = Vec3 {
-            x: numbers[a],
-            y: numbers[a + 1],
-            z: numbers[a + 2],
-        };
-        let d = plane_separation(plane, position);
+    for i in 0..n {
+        let v = corners.corner_at(p + i);
+        let d = plane_separation(plane, v.position);
         if !(d <= 0.0) {
             return false;
         }
-        i += 1;
     }
     true
 }
@@ -162,22 +151,21 @@ pub fn keeps_all(numbers: &[f32], p: usize, n: usize, plane: Plane) -> bool
 // The cut of the polygon of n corners from corner p on, the first of one half of the lists. A cut that keeps every corner is left out; what any other
 // leaves stands in the other half.
 pub fn cut_side(
-    numbers: &mut [f32],
-    tags: &mut [u8],
+    corners: &mut Corners,
     p: usize,
     n: usize,
     plane: Plane,
     edge: u8,
     reference: Plane,
 ) -> Kept
-    requires { Roomy numbers.old tags.old × Half p × (0 < n) × (n ≤ 64) }
-    ensures { Standing numbers.new tags.new (cut_of plane edge reference (corners_in numbers.old
-        tags.old p n)) result × Half result.from }
+    requires { Half p × (0 < n) × (n ≤ 64) }
+    ensures { Standing corners.new.numbers corners.new.tags (cut_of plane edge reference (corners_in corners.old.numbers corners.old.tags p n)) result
+        × Half result.from }
 {
-    if keeps_all(numbers, p, n, plane) {
+    if keeps_all(corners, p, n, plane) {
         return Kept { from: p, count: n };
     }
     let q = 64 - p;
-    let m = clip_polygon(numbers, tags, p, n, plane, edge, reference, q);
+    let m = clip_polygon(corners, p, n, plane, edge, reference, q);
     Kept { from: q, count: m }
 }

@@ -28,14 +28,14 @@ use Rattle.reduce_scores.specs.Images.{image_of, least_separation_of, touching_o
 use Rattle.reduce_points.specs.Points.{contact_of}
 use Rattle.reduce.specs.Reduce.{points_of}
 use Rattle.reduce.proofs.Chosen.{chosen}
-use Rattle.axis.specs.declared.EdgeAxis.{EdgeAxis}
+use Rattle.std.specs.Prelude.{Option, Some, None}
 use Rattle.axis.specs.declared.Search.{Search}
 use Rattle.axis.specs.declared.Axis.{Axis}
 use Rattle.axis.specs.Search.{search_of}
 use Rattle.contacts.specs.Faces.{images_on, picks_on, carried_of, contact_on_a, contact_on_b, on_face, face_a_of, face_b_of}
 use Rattle.contacts.specs.EdgePairs.{nearest_of, along_of, edge_contact_of}
-use Rattle.collide_outcome.specs.declared.Built.{Built}
-use Rattle.collide_outcome.specs.declared.Cached.{Cached}
+use Rattle.collide_outcome.specs.Builds.{Built}
+use Rattle.collide_outcome.specs.Served.{Cached}
 use Rattle.collide_outcome.specs.Builds.{touched_of}
 use Rattle.collide_outcome.specs.Served.{near_of, served_of}
 use Rattle.collide_outcome.specs.Answers.{refused_of, answer_of}
@@ -125,10 +125,10 @@ module _ (s : HullSize) (n : List Float) (l : List ℕ) (t : HullSize) (m : List
   unfolding winner_contact contact_a contact_b
   few_winner a b = either FewBuilt (Ieee.lt b.separation a.separation) (few_a _ _) (few_b _ _)
 
-  few_with : (built : Built) (edge : EdgeAxis) → FewBuilt built → FewBuilt (with_edge s n l t m k x built edge)
+  few_with : (built : Built) (edge : Option Axis) → FewBuilt built → FewBuilt (with_edge s n l t m k x built edge)
   unfolding with_edge instead_of pair_contact
-  few_with built EdgeAxis.None h = h
-  few_with built (EdgeAxis.Pair e) h =
+  few_with built None h = h
+  few_with built (Some e) h =
       either FewBuilt (tries_edge s.unit built e)
       (either FewBuilt (edge_contact_of s n l t m k x e.normal e.index_a e.index_b).touching
       (few_edges e.normal e.index_a e.index_b) h) h

@@ -6,7 +6,7 @@ use Rattle.manifold.specs.declared.SatCache.{SatCache}
 use Rattle.manifold.specs.declared.Answer.{Answer}
 use Rattle.manifold.specs.Records.{empty_contact, hit_set}
 use Rattle.hull_links.specs.declared.HullSize.{HullSize}
-use Rattle.collide_outcome.specs.declared.Cached.{Cached}
+use Rattle.collide_outcome.specs.Served.{Cached}
 use Rattle.collide_cached.specs.Again.{cached_face_a_of, cached_face_b_of, cached_edge_of}
 use Rattle.collide_full.specs.Full.{full_of}
 use Rattle.collide_refusals.specs.Refusals.{refusal_of}

@@ -21,12 +21,11 @@ use Rattle.hull.specs.Numbers.{vertex_at, plane_at, support_at}
 use Rattle.hull.specs.Accepted.{Accepted}
 use Rattle.hull.proofs.Support.{support_in}
 use Rattle.hull.proofs.Hulls.{below, in_list}
-use Rattle.collide_outcome.specs.declared.Built.{Built}
+use Rattle.collide_outcome.specs.Builds.{Built}
 use Rattle.contacts.specs.Faces.{face_a_of, face_b_of}
 use Rattle.contacts.specs.EdgePairs.{edge_contact_of}
-use Rattle.collide_outcome.specs.declared.Cached.{Cached}
+use Rattle.collide_outcome.specs.Served.{Cached, hit_with, no_hit, served_of}
 use Rattle.collide_cached.specs.declared.ridges.Ridge.{Ridge}
-use Rattle.collide_outcome.specs.Served.{hit_with, no_hit, served_of}
 use Rattle.collide_cached.specs.Ridges.{ridge_of, carried_ridge, crosses_of, axis_between}
 use Rattle.collide_cached.specs.Again.{deepest_below_a, separation_from_a, cached_face_a_of, deepest_below_b, separation_from_b, cached_face_b_of}
 use Rattle.collide_cached.specs.Again.{cached_edge_of}

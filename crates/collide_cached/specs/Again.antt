@@ -15,8 +15,7 @@ use Rattle.hull_links.specs.declared.HullSize.{HullSize}
 use Rattle.hull.specs.Numbers.{vertex_at, plane_at, support_at}
 use Rattle.contacts.specs.Faces.{face_a_of, face_b_of}
 use Rattle.contacts.specs.EdgePairs.{edge_contact_of}
-use Rattle.collide_outcome.specs.declared.Cached.{Cached}
-use Rattle.collide_outcome.specs.Served.{hit_with, no_hit, served_of}
+use Rattle.collide_outcome.specs.Served.{Cached, hit_with, no_hit, served_of}
 use Rattle.collide_cached.specs.Ridges.{ridge_of, carried_ridge, crosses_of, axis_between}
 
 -- ---- types 2 and 3: hull A is (s, n, l), hull B is (t, m, k), of one unit, and x places B in A's frame

@@ -3,7 +3,7 @@ ghost use Rattle.std.specs.Prelude.{◌≡◌, ◌+◌, ◌<◌};
 ghost use Rattle.hull.specs.Accepted.{Accepted};
 ghost use Rattle.collide_cached.specs.Ridges.{edge_at, ridge_of, carried_ridge, cross_over, wide_of, crosses_of, axis_between};
 
-use hull_links::HullSize;
+use hull_links::Hull;
 use vector::arithmetic::{dot, length_squared, lerp, normalize, sub};
 use vector::scalar::max_float;
 use vector::{Transform, Vec3};
@@ -26,53 +26,42 @@ pub struct Ridge {
     pub normal1: Vec3,
 }
 
-fn edge_at(numbers: &[f32], links: &[u8], size: HullSize, e: usize) -> Edge
-    requires { Accepted size numbers.now links.now × (e + 1 < size.half_edges) }
-    ensures { result ≡ edge_at size numbers.now links.now e }
+fn edge_at(hull: &Hull, e: usize) -> Edge
+    requires { Accepted hull.now.size hull.now.numbers.now hull.now.links.now × (e + 1 < hull.now.size.half_edges) }
+    ensures { result ≡ edge_at hull.now.size hull.now.numbers.now hull.now.links.now e }
 {
-    let from = hull::vertex_at(numbers, size, hull_links::origin_of(links, size, e));
-    let to = hull::vertex_at(numbers, size, hull_links::origin_of(links, size, e + 1));
-    let plane0 = hull::plane_at(numbers, size, hull_links::face_of(links, size, e));
-    let plane1 = hull::plane_at(numbers, size, hull_links::face_of(links, size, e + 1));
-    let normal0 = plane0.normal;
-    let normal1 = plane1.normal;
+    let from = hull::vertex_at(hull, hull.origin_of(e));
+    let to = hull::vertex_at(hull, hull.origin_of(e + 1));
+    let plane0 = hull::plane_at(hull, hull.face_of(e));
+    let plane1 = hull::plane_at(hull, hull.face_of(e + 1));
     Edge {
         from,
         to,
-        normal0,
-        normal1,
+        normal0: plane0.normal,
+        normal1: plane1.normal,
     }
 }
 
 // Half-edges e and e + 1 of a hull.
-pub fn ridge_of(numbers: &[f32], links: &[u8], size: HullSize, e: usize) -> Ridge
-    requires { Accepted size numbers.now links.now × (e + 1 < size.half_edges) }
-    ensures { result ≡ ridge_of size numbers.now links.now e }
+pub fn ridge_of(hull: &Hull, e: usize) -> Ridge
+    requires { Accepted hull.now.size hull.now.numbers.now hull.now.links.now × (e + 1 < hull.now.size.half_edges) }
+    ensures { result ≡ ridge_of hull.now.size hull.now.numbers.now hull.now.links.now e }
 {
-    let edge = edge_at(numbers, links, size, e);
-    let end = edge.to;
-    let normal0 = edge.normal0;
-    let normal1 = edge.normal1;
+    let edge = edge_at(hull, e);
     Ridge {
-        direction: sub(end, edge.from),
-        end,
-        normal0,
-        normal1,
+        direction: sub(edge.to, edge.from),
+        end: edge.to,
+        normal0: edge.normal0,
+        normal1: edge.normal1,
     }
 }
 
 // The same, carried into the frame that the transform leads to.
-pub fn carried_ridge(
-    transform: Transform,
-    numbers: &[f32],
-    links: &[u8],
-    size: HullSize,
-    e: usize,
-) -> Ridge
-    requires { Accepted size numbers.now links.now × (e + 1 < size.half_edges) }
-    ensures { result ≡ carried_ridge transform size numbers.now links.now e }
+pub fn carried_ridge(transform: Transform, hull: &Hull, e: usize) -> Ridge
+    requires { Accepted hull.now.size hull.now.numbers.now hull.now.links.now × (e + 1 < hull.now.size.half_edges) }
+    ensures { result ≡ carried_ridge transform hull.now.size hull.now.numbers.now hull.now.links.now e }
 {
-    let edge = edge_at(numbers, links, size, e);
+    let edge = edge_at(hull, e);
     let end = rotation::transform_point(transform, edge.to);
     Ridge {
         direction: sub(end, rotation::transform_point(transform, edge.from)),
@@ -86,12 +75,7 @@ pub fn carried_ridge(
 fn cross_over(cba: f32, dba: f32, adc: f32, bdc: f32) -> bool
     ensures { result ≡ cross_over cba dba adc bdc }
 {
-    if cba * dba < 0.0 {
-        if adc * bdc < 0.0 {
-            return cba * bdc > 0.0;
-        }
-    }
-    false
+    cba * dba < 0.0 && (adc * bdc < 0.0 && cba * bdc > 0.0)
 }
 
 // The parallel test: whether the edges are far enough from parallel.
@@ -108,10 +92,7 @@ pub fn crosses(a: Ridge, b: Ridge) -> bool
     let dba = dot(b.normal1, a.direction);
     let adc = -dot(a.normal0, b.direction);
     let bdc = -dot(a.normal1, b.direction);
-    if cross_over(cba, dba, adc, bdc) {
-        return wide(cba, dba, a.direction);
-    }
-    false
+    cross_over(cba, dba, adc, bdc) && wide(cba, dba, a.direction)
 }
 
 // The axis across both edges.

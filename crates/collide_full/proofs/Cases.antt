@@ -13,13 +13,13 @@ use Rattle.units.specs.Limits.{slop}
 use Rattle.hull_links.specs.declared.HullSize.{HullSize}
 use Rattle.hull.specs.Accepted.{Accepted}
 use Rattle.axis.specs.declared.Axis.{Axis}
-use Rattle.axis.specs.declared.EdgeAxis.{EdgeAxis}
+use Rattle.std.specs.Prelude.{Option, Some}
 use Rattle.axis.specs.declared.Found.{Found}
 use Rattle.axis.specs.declared.Search.{Search}
 use Rattle.axis.specs.Ranges.{EdgeInRange, InRange}
 use Rattle.axis.specs.Search.{search_of}
 use Rattle.axis.proofs.Ranges.{in_range}
-use Rattle.collide_outcome.specs.declared.Built.{Built}
+use Rattle.collide_outcome.specs.Builds.{Built}
 use Rattle.collide_full.specs.Full.{tries_edge, pair_contact, contact_a, contact_b, winner_contact, instead_of, with_edge, found_contact}
 
 -- ---- the pair of edges beside what the face made
@@ -42,7 +42,7 @@ module _ (s : HullSize) (n : List Float) (l : List ℕ) (t : HullSize) (m : List
     unfolding winner_contact
     b_wins h = rw h
 
-    module _ (edge : EdgeAxis) (built : Built) (q : built ≡ winner_contact s n l t m k x a b) where
+    module _ (edge : Option Axis) (built : Built) (q : built ≡ winner_contact s n l t m k x a b) where
       -- what comes of a face contact
       abbrev goes_on : Built → Built
       goes_on w = cond (eqb w.status 0) (with_edge s n l t m k x w edge) w
@@ -95,7 +95,7 @@ module _ {s t : HullSize} {n m : List Float} {l k : List ℕ} (x : Transform) (a
   unfolding InRange
   found_in f q = subst (InRange s t) (sym q) (in_range x a b)
 
-pub pair_in : (s t : HullSize) (e : Axis) (edge : EdgeAxis) → edge ≡ EdgeAxis.Pair e → EdgeInRange s t edge → (e.index_a < s.half_edges)
+pub pair_in : (s t : HullSize) (e : Axis) (edge : Option Axis) → edge ≡ Some e → EdgeInRange s t edge → (e.index_a < s.half_edges)
     × (e.index_b < t.half_edges)
 unfolding EdgeInRange
 pair_in s t e edge q r = subst (EdgeInRange s t) q r

@@ -1,7 +1,7 @@
 -- The full search: "cache and count cleared; the axis search .. stops at the first new best strictly above speculative. Otherwise face A wins only if
 -- strictly above face B. The edge contact is then tried if there is a pair and either no points stand or the edge separation is strictly above the
 -- cache's plus slop; it replaces contact and cache only if it made its one point." Definitions only.
-use Rattle.std.specs.Prelude.{ℕ, Bool, true, false, cond, List, eqb, Float}
+use Rattle.std.specs.Prelude.{ℕ, Bool, true, false, cond, List, eqb, Float, Option, Some, None}
 use Rattle.std.specs.Float.Ieee as Ieee
 use Rattle.vector.specs.declared.Transform.{Transform}
 use Rattle.vector.specs.Rounded.{◌⊕◌, float}
@@ -10,11 +10,10 @@ use Rattle.manifold.specs.Records.{empty_contact}
 use Rattle.hull_links.specs.declared.HullSize.{HullSize}
 use Rattle.axis.specs.declared.Axis.{Axis}
 use Rattle.axis.specs.declared.AxisApart.{AxisApart}
-use Rattle.axis.specs.declared.EdgeAxis.{EdgeAxis}
 use Rattle.axis.specs.declared.Search.{Search}
 use Rattle.axis.specs.Search.{search_of}
 use Rattle.axis.specs.Meaning.{cache_of}
-use Rattle.collide_outcome.specs.declared.Built.{Built}
+use Rattle.collide_outcome.specs.Builds.{Built}
 use Rattle.contacts.specs.Faces.{face_a_of, face_b_of}
 use Rattle.contacts.specs.EdgePairs.{edge_contact_of}
 
@@ -47,12 +46,12 @@ module _ (s : HullSize) (n : List Float) (l : List ℕ) (t : HullSize) (m : List
   unfoldable pub instead_of : Built → Axis → Built
   instead_of built e = cond (tries_edge s.unit built e) (cond (pair_contact e).touching (pair_contact e) built) built
 
-  unfoldable pub with_edge : Built → EdgeAxis → Built
-  with_edge built (EdgeAxis.Pair e) = instead_of built e
-  with_edge built EdgeAxis.None = built
+  unfoldable pub with_edge : Built → Option Axis → Built
+  with_edge built (Some e) = instead_of built e
+  with_edge built None = built
 
   -- a refusal that the face contact met stays one
-  unfoldable pub found_contact : Axis → Axis → EdgeAxis → Built
+  unfoldable pub found_contact : Axis → Axis → Option Axis → Built
   found_contact a b edge = cond (eqb (winner_contact a b).status 0) (with_edge (winner_contact a b) edge) (winner_contact a b)
 
   unfoldable pub after_search : Search → Built

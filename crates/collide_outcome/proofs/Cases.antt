@@ -6,7 +6,7 @@ use lib.Dec.{eqb}
 use native.Mathlib.Omega.{arith}
 use borrow.Author.Tests.{eq-eqb, ne_eqb, le-leb, lt-leb}
 use Rattle.manifold.specs.declared.SatCache.{SatCache}
-use Rattle.collide_outcome.specs.declared.Built.{Built}
+use Rattle.collide_outcome.specs.Builds.{Built}
 use Rattle.collide_outcome.specs.Answers.{retired_of, accepted, refused_of, answer_of}
 use Rattle.collide_outcome.specs.Served.{hit_with, no_hit, near_of, served_of}
 

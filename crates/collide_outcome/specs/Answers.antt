@@ -4,7 +4,7 @@ use Rattle.manifold.specs.declared.SatCache.{SatCache}
 use Rattle.manifold.specs.declared.Contact.{Contact}
 use Rattle.manifold.specs.declared.Answer.{Answer}
 use Rattle.manifold.specs.Records.{empty_contact}
-use Rattle.collide_outcome.specs.declared.Built.{Built}
+use Rattle.collide_outcome.specs.Builds.{Built}
 
 -- document 02, j: the mark of a type that was read, 1 for the retired types 6, 7 and 8
 unfoldable pub retired_of : ℕ → ℕ

@@ -1,11 +1,17 @@
 -- What a contact that is built leaves: itself, whether the hulls touch, and the next cache. Definitions only.
-use Rattle.std.specs.Prelude.{ℕ, true, false, Float}
+use Rattle.std.specs.Prelude.{ℕ, Bool, true, false, Float}
 use Rattle.std.specs.Float.{binary32}
 use Rattle.std.specs.Float.Ieee.{to_bits}
 use Rattle.manifold.specs.declared.SatCache.{SatCache}
 use Rattle.manifold.specs.declared.Contact.{Contact}
 use Rattle.manifold.specs.Records.{empty_contact, empty_cache}
-use Rattle.collide_outcome.specs.declared.Built.{Built}
+
+-- a status of 0 or the number of the refusal that the work met, whether the hulls touch, the contact and the next cache
+pub record Built : Type 0 where
+  pub contact : Contact
+  pub cache : SatCache
+  pub status : ℕ
+  pub touching : Bool
 
 -- the axis of this type, with its separation's bits and its numbers, and no hit
 abbrev pub axis_cache : Float → ℕ → ℕ → ℕ → SatCache

@@ -1,3 +1,4 @@
 pub mod Builds
 pub mod Answers
 pub mod Served
+pub mod Told

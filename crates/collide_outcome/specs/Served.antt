@@ -8,8 +8,13 @@ use Rattle.units.specs.Limits.{slop}
 use Rattle.manifold.specs.declared.SatCache.{SatCache}
 use Rattle.manifold.specs.declared.Contact.{Contact}
 use Rattle.manifold.specs.Records.{empty_contact}
-use Rattle.collide_outcome.specs.declared.Built.{Built}
-use Rattle.collide_outcome.specs.declared.Cached.{Cached}
+use Rattle.collide_outcome.specs.Builds.{Built}
+
+-- a hit, with the contact that comes of it; else the full search has to be made, or the work met a refusal, whose number is the status
+pub record Cached : Type 0 where
+  pub contact : Contact
+  pub status : ℕ
+  pub hit : Bool
 
 -- a hit with this contact; no hit, with the refusal that was met or 0
 abbrev pub hit_with : Contact → Cached

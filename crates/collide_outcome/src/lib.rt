@@ -1,35 +1,61 @@
-// What a contact that is built leaves, as one record; and what becomes of it: the answer of a call, or a cached axis that serves again.
-// What each says is in specs/.
+// What a contact that is built leaves, or the refusal that the work met; and what becomes of it: the answer of a call, or a cached axis that serves
+// again. What each says is in specs/.
 #![tactic(auto)]
 
-ghost use Rattle.std.specs.Prelude.{◌≡◌};
-ghost use Rattle.collide_outcome.specs.Builds.{touched_of, missed, refused_at};
+ghost use Rattle.std.specs.Prelude.{◌≡◌, Ok};
+ghost use Rattle.collide_outcome.specs.Builds.{touched_of, missed};
+ghost use Rattle.collide_outcome.specs.Told.{number_of, built_of, cached_of};
 ghost use Rattle.collide_outcome.specs.Answers.{retired_of, accepted, refused_of, answer_of};
-ghost use Rattle.collide_outcome.specs.Served.{hit_with, no_hit, near_of, served_of};
+ghost use Rattle.collide_outcome.specs.Served.{near_of, served_of};
 
 use manifold::bits::float_of;
 use manifold::records::{empty_cache, empty_contact};
 use manifold::{Answer, Contact, Outcome, SatCache};
 use vector::scalar::abs_float;
 
-// What was built: the contact, the next cache, a status of 0 or the number of a refusal, and whether the hulls touch.
-// Where they do not touch the contact is empty and the cache cleared. The bytes stand last, so that the contact is copied by words.
+// Why a call is refused: a hull breaks a rule, the transform does, the cache names what is not there, the support vertex is padding, a cut has a 65th
+// corner, the hulls' units differ.
+#[derive(Clone, Copy, PartialEq, Eq)]
+pub enum Refusal {
+    HullA,
+    HullB,
+    Transform,
+    Cache,
+    Vertex,
+    Corners,
+    Units,
+}
+
+impl From<Refusal> for u8 {
+    // A refusal by its number in document 01's table.
+    fn from(refusal: Refusal) -> u8
+        ensures { result ≡ number_of refusal }
+    {
+        match refusal {
+            Refusal::HullA => 1,
+            Refusal::HullB => 2,
+            Refusal::Transform => 3,
+            Refusal::Cache => 4,
+            Refusal::Vertex => 5,
+            Refusal::Corners => 6,
+            Refusal::Units => 17,
+        }
+    }
+}
+
+// What was built: the contact where the hulls touch, and the next cache.
 #[derive(Clone, Copy)]
-pub struct Built {
-    pub contact: Contact,
+pub struct Build {
+    pub contact: Option<Contact>,
     pub cache: SatCache,
-    pub status: u8,
-    pub touching: bool,
 }
 
 // They touch: the contact, and the axis that made it.
-pub fn touched(contact: Contact, separation: f32, kind: u8, index_a: u8, index_b: u8) -> Built
-    ensures { result ≡ touched_of contact separation kind index_a index_b }
+pub fn touched(contact: Contact, separation: f32, kind: u8, index_a: u8, index_b: u8) -> Build
+    ensures { built_of (Ok result) ≡ touched_of contact separation kind index_a index_b }
 {
-    Built {
-        status: 0,
-        touching: true,
-        contact,
+    Build {
+        contact: Some(contact),
         cache: SatCache {
             separation: manifold::bits::bits_of(separation),
             kind,
@@ -41,23 +67,12 @@ pub fn touched(contact: Contact, separation: f32, kind: u8, index_a: u8, index_b
 }
 
 // They do not touch.
-pub fn missed() -> Built
-    ensures { result ≡ missed }
+pub fn missed() -> Build
+    ensures { built_of (Ok result) ≡ missed }
 {
-    refused_at(0)
-}
-
-// A refusal that the work met, or 0 for none.
-pub fn refused_at(status: u8) -> Built
-    ensures { result ≡ refused_at status }
-{
-    let contact = empty_contact();
-    let cache = empty_cache();
-    Built {
-        status,
-        touching: false,
-        contact,
-        cache,
+    Build {
+        contact: None,
+        cache: empty_cache(),
     }
 }
 
@@ -100,43 +115,16 @@ pub fn refused(status: u8, cache: SatCache) -> Answer
 }
 
 // What was built, with the mark of the type that was read; or the refusal that the work met.
-pub fn answer_of(cache: SatCache, built: Built) -> Answer
-    ensures { result ≡ answer_of cache built }
+pub fn answer_of(cache: SatCache, built: Result<Build, Refusal>) -> Answer
+    ensures { result ≡ answer_of cache (built_of built) }
 {
-    if built.status != 0 {
-        return refused(built.status, cache);
-    }
-    let contact = built.contact;
-    let next = built.cache;
-    accepted_with(retired_mark(cache.kind), contact, next)
-}
-
-// A hit, with the contact that comes of it; else the full search has to be made, or the work met a refusal, whose number is the status.
-#[derive(Clone, Copy)]
-pub struct Cached {
-    pub contact: Contact,
-    pub status: u8,
-    pub hit: bool,
-}
-
-pub fn hit_with(contact: Contact) -> Cached
-    ensures { result ≡ hit_with contact }
-{
-    Cached {
-        status: 0,
-        hit: true,
-        contact,
-    }
-}
-
-pub fn no_hit(status: u8) -> Cached
-    ensures { result ≡ no_hit status }
-{
-    let none = empty_contact();
-    Cached {
-        status,
-        hit: false,
-        contact: none,
+    match built {
+        Ok(build) => {
+            let contact = build.contact.unwrap_or_else(empty_contact);
+            let next = build.cache;
+            accepted_with(retired_mark(cache.kind), contact, next)
+        }
+        Err(refusal) => refused(u8::from(refusal), cache),
     }
 }
 
@@ -148,20 +136,17 @@ fn near(unit: usize, cache: SatCache, fresh: SatCache) -> bool
     abs_float(difference) < units::linear_slop(unit)
 }
 
-// Whether what was built anew may stand for the cached axis.
-pub fn served(unit: usize, cache: SatCache, built: Built) -> Cached
-    ensures { result ≡ served_of unit cache built }
+// The contact that was built anew, where it may stand for the cached axis; nothing where the full search has to be made.
+pub fn served(
+    unit: usize,
+    cache: SatCache,
+    built: Result<Build, Refusal>,
+) -> Result<Option<Contact>, Refusal>
+    ensures { cached_of result ≡ served_of unit cache (built_of built) }
 {
-    if built.status != 0 {
-        return no_hit(built.status);
+    let build = built?;
+    if near(unit, cache, build.cache) {
+        return Ok(build.contact);
     }
-    if !built.touching {
-        return no_hit(0);
-    }
-    let fresh = built.cache;
-    if near(unit, cache, fresh) {
-        let made = built.contact;
-        return hit_with(made);
-    }
-    no_hit(0)
+    Ok(None)
 }

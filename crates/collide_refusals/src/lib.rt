@@ -3,69 +3,66 @@
 #![tactic(auto)]
 
 ghost use Rattle.std.specs.Prelude.{◌≡◌};
+ghost use Rattle.collide_outcome.specs.Told.{refusal_number};
 ghost use Rattle.collide_refusals.specs.Refusals.{first_half, cache_right, placed_refusal_of, later_refusal_of};
 
+use collide_outcome::Refusal;
 use hull_limits::transform::transform_accepted;
 use hull_links::HullSize;
 use manifold::SatCache;
+use manifold::kinds::{AxisKind, axis_kind};
 use vector::Transform;
 
 // Whether a number is that of the first of two half-edges: even, and below H.
 fn first_half(size: HullSize, e: u8) -> bool
     ensures { result ≡ first_half size e }
 {
-    if e % 2 != 0 {
-        return false;
-    }
-    (e as usize) < size.half_edges
+    e % 2 == 0 && usize::from(e) < size.half_edges
 }
 
 // Whether what the cache names is there: refusal 4 where it is not.
 fn cache_right(size_a: HullSize, size_b: HullSize, cache: SatCache) -> bool
     ensures { result ≡ cache_right size_a size_b cache }
 {
-    let kind = cache.kind;
-    match kind {
-        2 => (cache.index_a as usize) < size_a.faces,
-        3 => (cache.index_b as usize) < size_b.faces,
-        4 => {
-            if first_half(size_a, cache.index_a) {
-                return first_half(size_b, cache.index_b);
-            }
-            false
+    match axis_kind(cache.kind) {
+        Some(AxisKind::FaceA) => usize::from(cache.index_a) < size_a.faces,
+        Some(AxisKind::FaceB) => usize::from(cache.index_b) < size_b.faces,
+        Some(AxisKind::Edges) => {
+            first_half(size_a, cache.index_a) && first_half(size_b, cache.index_b)
         }
-        0..=1 | 5..=255 => true,
+        None => true,
     }
 }
 
-// What is refused of where one hull stands to the other, 0 if nothing: 17, units that differ, then 3, the transform by their unit.
-pub fn placed_refusal(size_a: HullSize, size_b: HullSize, transform: Transform) -> u8
-    ensures { result ≡ placed_refusal_of size_a size_b transform 0 }
+// What is refused of where one hull stands to the other: units that differ, then the transform by their unit.
+pub fn placed_refusal(
+    size_a: HullSize,
+    size_b: HullSize,
+    transform: Transform,
+) -> Result<(), Refusal>
+    ensures { refusal_number result ≡ placed_refusal_of size_a size_b transform 0 }
 {
     if size_a.unit != size_b.unit {
-        return 17;
+        return Err(Refusal::Units);
     }
     if !transform_accepted(size_a.unit, transform) {
-        return 3;
+        return Err(Refusal::Transform);
     }
-    0
+    Ok(())
 }
 
-// The first refusal that is given before any work to two hulls that break no rule, 0 if none: 17, 3, 4.
+// The first refusal that is given before any work to two hulls that break no rule: their units, the transform, the cache.
 pub fn later_refusal(
     size_a: HullSize,
     size_b: HullSize,
     transform: Transform,
     cache: SatCache,
-) -> u8
-    ensures { result ≡ later_refusal_of size_a size_b transform cache }
+) -> Result<(), Refusal>
+    ensures { refusal_number result ≡ later_refusal_of size_a size_b transform cache }
 {
-    let placed = placed_refusal(size_a, size_b, transform);
-    if placed != 0 {
-        return placed;
-    }
+    placed_refusal(size_a, size_b, transform)?;
     if !cache_right(size_a, size_b, cache) {
-        return 4;
+        return Err(Refusal::Cache);
     }
-    0
+    Ok(())
 }

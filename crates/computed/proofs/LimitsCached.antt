@@ -34,10 +34,8 @@ use Rattle.reduce.specs.Reduce.{all_or_picked, points_of}
 use Rattle.reduce_points.specs.Points.{point_of, placed_from, normal_of, contact_of}
 use Rattle.contacts.specs.Faces.{images_on, picks_on, carried_of, contact_on_a, contact_on_b, on_face, face_a_of, face_b_of}
 use Rattle.contacts.specs.EdgePairs.{edge_point, along_of, nearest_of, edge_contact_of}
-use Rattle.collide_outcome.specs.declared.Built.{Built}
-use Rattle.collide_outcome.specs.declared.Cached.{Cached}
-use Rattle.collide_outcome.specs.Builds.{touched_of}
-use Rattle.collide_outcome.specs.Served.{near_of, served_of}
+use Rattle.collide_outcome.specs.Builds.{Built, touched_of}
+use Rattle.collide_outcome.specs.Served.{Cached, near_of, served_of}
 use Rattle.collide_cached.specs.Again.{deepest_below_a, separation_from_a, cached_face_a_of, deepest_below_b, separation_from_b, cached_face_b_of}
 use Rattle.collide_cached.specs.Again.{cached_edge_of}
 use Rattle.collide_cached.specs.Ridges.{ridge_of, carried_ridge, cross_over, wide_of, crosses_of, axis_between}

@@ -1,11 +1,11 @@
 -- Both sides of each limit, sign and tie of the cuts, the candidates and the picks, one row each. Assumes nothing.
 use mathlib.Core.Path.{◌≡◌, refl}
-use mathlib.Core.Bool.{true}
 use mathlib.Core.List.{List, [], ◌∷◌, ◌++◌, map}
 use Prim.Native.Nat.{ℕ, ◌*◌}
 use lib.ListN.{length, replicate}
 use lib.Ieee.{Float, to_bits}
 use lib.Ieee as Ieee
+use Rattle.std.specs.Prelude.{Some, unwrap_or}
 use Rattle.units.specs.Units.{units_per_meter}
 use Rattle.units.specs.Limits.{slop, speculative}
 use Rattle.vector.specs.declared.Vec3.{Vec3}
@@ -36,8 +36,7 @@ use Rattle.reduce.specs.Reduce.{without, standing, taken, first_best, second_bes
 use Rattle.reduce.specs.Reduce.{first_picks, all_or_picked, points_of, numbered, places_of}
 use Rattle.reduce_points.specs.Points.{point_of, placed_from, placed, normal_of, contact_of}
 use Rattle.contacts.specs.Faces.{images_on, picks_on, carried_of, contact_on_a, contact_on_b, on_face}
-use Rattle.collide_outcome.specs.declared.Built.{Built}
-use Rattle.collide_outcome.specs.Builds.{touched_of}
+use Rattle.collide_outcome.specs.Builds.{Built, touched_of}
 use Rattle.computed.proofs.Rows.{Row, row, is, yes, no, given, said, bits, vec, sizes}
 
 -- the speculative distance in metres
@@ -119,8 +118,11 @@ abbrev pick4 : ℕ → List ℕ
 pick4 y = fourth_picks far up (corner 0 0 0) (corner 0x3f80_0000 0 0) (corner 0 0x3f80_0000 0) (corner 0x3e80_0000 y 0 ∷ [])
 
 -- the best is number 3 at this score; number 8 comes with a score of 1, which counts as 0.95
+abbrev index_of : Best → ℕ
+index_of b = unwrap_or b.index 255
+
 abbrev best : ℕ → Best
-best score = record { found = true; index = 3; score = float score }
+best score = record { index = Some 3; score = float score }
 
 -- a pair flipped: its status and its four numbers
 abbrev flipped : (a b c d : ℕ) → List ℕ
@@ -187,8 +189,9 @@ table =
     ∷ is (standing 4 1 1) 3 ∷ is (standing 4 1 2) 2 ∷ row (taken 0 (1 ∷ 1 ∷ 1 ∷ []) (10 ∷ 11 ∷ 12 ∷ 13 ∷ [])) (11 ∷ 13 ∷ 12 ∷ [])
     -- the scores: a bias of 0.95, with `>` and with `>=`
     ∷ is (bits bias) 0x3f73_3333
-    ∷ is (better_pick_of (best 0x3f73_3333) 8 (float 0x3f80_0000)).index 3 ∷ is (better_pick_of (best 0x3f73_3332) 8 (float 0x3f80_0000)).index 8
-    ∷ is (as_good_of (best 0x3f73_3333) 8 (float 0x3f80_0000)).index 8 ∷ is (as_good_of (best 0x3f73_3334) 8 (float 0x3f80_0000)).index 3
+    ∷ is (index_of (better_pick_of (best 0x3f73_3333) 8 (float 0x3f80_0000))) 3
+    ∷ is (index_of (better_pick_of (best 0x3f73_3332) 8 (float 0x3f80_0000))) 8
+    ∷ is (index_of (as_good_of (best 0x3f73_3333) 8 (float 0x3f80_0000))) 8 ∷ is (index_of (as_good_of (best 0x3f73_3334) 8 (float 0x3f80_0000))) 3
     ∷ is (bits (better_pick_of (best 0) 8 (float 0x3f80_0000)).score) 0x3f80_0000
     -- first, "extreme point that is touching": one strictly above speculative is passed over, and a deeper one is better
     ∷ row (pick1 0x3ca3_d709) (0 ∷ []) ∷ row (pick1 0x3ca3_d70a) (0 ∷ []) ∷ row (pick1 0x3ca3_d70b) []

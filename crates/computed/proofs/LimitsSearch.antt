@@ -23,6 +23,7 @@ use Rattle.axis_edges.specs.Edges.{eps, dot_right, passes_of, parallel_of}
 use Rattle.axis_row.specs.inner.Marks.{at_least_eps, fails_first}
 use Rattle.axis_row.specs.inner.Sift.{fails_later}
 use Rattle.axis.specs.declared.Search.{Search}
+use Rattle.manifold.specs.Kinds.{kind_number}
 use Rattle.axis.specs.Search.{axis_of, apart_of, edge_of, found_of, search_answer_of}
 use Rattle.computed.proofs.Rows.{Row, is, yes, no, given, said, bits, vec, sizes}
 
@@ -55,7 +56,7 @@ searched = lead_after (λ (i : ℕ) (lead : Lead). better_of 1 none (get_or risi
 
 -- the answer in one number: the type of an axis apart, 0 where faces are found
 abbrev told : Search → ℕ
-told (Search.Apart a) = a.kind
+told (Search.Apart a) = kind_number a.kind
 told (Search.Found f) = 0
 
 -- eight vertices at the origin; four at x = -100000 and four at the origin; five vertices at the origin with three lanes of padding, which lie there too

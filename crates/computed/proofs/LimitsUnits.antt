@@ -33,8 +33,7 @@ use Rattle.reduce_scores.specs.Images.{image_of, least_separation_of, touching_o
 use Rattle.reduce_scores.specs.Scores.{better_pick_of, reach_of, first_turn}
 use Rattle.reduce.specs.Reduce.{without, first_best, second_best, tolerance, second_picks, first_picks}
 use Rattle.contacts.specs.Faces.{images_on, picks_on, on_face}
-use Rattle.collide_outcome.specs.declared.Built.{Built}
-use Rattle.collide_outcome.specs.Builds.{touched_of}
+use Rattle.collide_outcome.specs.Builds.{Built, touched_of}
 use Rattle.collide_outcome.specs.Served.{near_of, served_of}
 use Rattle.collide_full.specs.Full.{tries_edge}
 use Rattle.computed.proofs.Rows.{Row, row, is, yes, no, given, said, bits, vec, sizes_at}

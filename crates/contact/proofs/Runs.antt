@@ -20,7 +20,7 @@ use Rattle.stream.specs.Tells.{Tells}
 use Rattle.stream.specs.Told.{told, held_after, told_last}
 use Rattle.stream.proofs.Parts.{told_append, held_append}
 use Rattle.contact.specs.declared.State.{State}
-use Rattle.contact.specs.Turns.{begins, unread, Arrives, Turned, told_of}
+use Rattle.contact.specs.Turns.{Fits, begins, unread, Arrives, Turned, told_of}
 
 pub sure : (b : Bool) → (b ≡ false → ⊥) → b ≡ true
 sure true f = refl
@@ -114,6 +114,25 @@ one_more s s' before now now' was is is' chunk chunk' line line' out out' p ok f
           (Appends-trans was is is' _ _ (p.leaves ok) (subst (Appends is is') (answer_first g.puts) (leaves o)));
       last = at_end s s' now now' chunk chunk' t a;
     }
+
+-- where the program stands: what was read so far, and the room
+pub record Stands (before was now is : Option (List ℕ)) (chunk0 out0 chunk line out : List ℕ) (s : State) : Type 0 where
+  pub chunk_room : length chunk ≡ length chunk0
+  pub out_room : length out ≡ length out0
+  pub fits : Fits chunk line s
+  pub sofar : Sofar before now was is chunk line s
+
+pub stands_more : {before was now now' is is' : Option (List ℕ)} {chunk0 out0 chunk chunk' line line' out out' : List ℕ} (s s' : State)
+    → Stands before was now is chunk0 out0 chunk line out s → s.ok ≡ true
+    → Fits chunk' line' s' × Turned s chunk s' chunk' × ((xs : List ℕ) → Held xs line s.part.held → Tells xs (unread s s' chunk') out s'.part line' out')
+    → Arrives now now' s.from s.to s'.to s'.read chunk' → (s'.ok ≡ true → Appends is is' (take s'.part.count out'))
+    → length chunk' ≡ length chunk → length out' ≡ length out → Stands before was now' is' chunk0 out0 chunk' line' out' s'
+stands_more s s' i ok t a leaves c o = record {
+  chunk_room = c ∙ i.chunk_room;
+  out_room = o ∙ i.out_room;
+  fits = t.0;
+  sofar = one_more _ _ _ _ _ _ _ _ _ _ _ _ _ _ i.sofar ok t.0.left t.1 a t.2 leaves;
+}
 
 all_of : (before now : Option (List ℕ)) (done rest : List ℕ) (P : List ℕ → Type 0) → Consumes before now (done ++ rest) → rest ≡ [] → IsAtEnd now → P done
     → IfSome before P

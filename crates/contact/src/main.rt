@@ -19,6 +19,7 @@ use stream::{Part, tell_last, tell_part};
 use stream_pending::Pending;
 
 // The characters `from` up to `to` of the chunk, which were read and are not told yet, and whether the read that was made for them, if one was, went well.
+// No Result: `from` and `to` say where the next turn begins after a read that failed too (record Arrives).
 #[derive(Clone, Copy)]
 pub struct Left {
     pub from: usize,
@@ -35,11 +36,7 @@ fn refill<R: Read>(input: &mut R, chunk: &mut [u8], from: usize, to: usize) -> L
     ensures arrives { Arrives (R.remaining input.old) (R.remaining input.new) from to result.to result.ok chunk.new }
 {
     if from < to {
-        return Left {
-            from: from,
-            to: to,
-            ok: true,
-        };
+        return Left { from, to, ok: true };
     }
     match input.read(chunk) {
         Ok(n) => Left {
@@ -55,7 +52,7 @@ fn refill<R: Read>(input: &mut R, chunk: &mut [u8], from: usize, to: usize) -> L
     }
 }
 
-// How many places were handed to the write, and whether it took them all.
+// How many places were handed to the write, and whether it took them all. No Result: the count holds of a write that failed too (clause `count`).
 #[derive(Clone, Copy)]
 pub struct Written {
     pub count: usize,
@@ -69,18 +66,15 @@ fn write_answers<W: Write>(output: &mut W, out: &[u8], n: usize) -> Written
     ensures leaves { result.ok ≡ true → Appends (W.contents output.old) (W.contents output.new) (take n out.now) }
 {
     let answers = &out[..n];
-    let ok = match output.write_all(answers) {
-        Ok(()) => true,
-        Err(_) => false,
-    };
     Written {
+        ok: output.write_all(answers).is_ok(),
         count: answers.len(),
-        ok: ok,
     }
 }
 
 // Where the program stands between two turns. The characters `from` up to `to` of the chunk were read and are not told yet; `part` was told in the last
 // turn, its `count` places of `out` were handed to the write, and `ok` says whether that took them all. `read` says whether the last turn's read went well.
+// No Result in place of the two: where the program stands is known after a failure too (records Turned and Arrives).
 #[derive(Clone, Copy)]
 pub struct State {
     pub from: usize,
@@ -106,53 +100,32 @@ fn turn_once<R: Read, W: Write>(
     ensures arrives { Arrives (R.remaining input.old) (R.remaining input.new) s.from s.to result.to result.read chunk.new }
     ensures leaves { result.ok ≡ true → Appends (W.contents output.old) (W.contents output.new) (take result.part.count out.new) }
 {
-    let last = s.part;
-    let p = last.held;
-    let left = refill(input, chunk, s.from, s.to);
-    let from = left.from;
-    let to = left.to;
+    let Left { from, to, ok: read } = refill(input, chunk, s.from, s.to);
     if from == to {
         return State {
-            from: from,
-            to: to,
+            from,
+            to,
             part: Part {
                 taken: 0,
-                held: p,
+                held: s.part.held,
                 count: 0,
             },
             ok: true,
-            read: left.ok,
+            read,
         };
     }
-    let part = tell_part(&chunk[from..to], line, p, out);
+    let part = tell_part(&chunk[from..to], line, s.part.held, out);
     let written = write_answers(output, out, part.count);
-    let next = from + part.taken;
-    let held = part.held;
     State {
-        from: next,
-        to: to,
+        from: from + part.taken,
+        to,
         part: Part {
-            taken: part.taken,
-            held: held,
             count: written.count,
+            ..part
         },
         ok: written.ok,
-        read: left.ok,
+        read,
     }
-}
-
-// One turn fewer, or none where the input ended or a write failed.
-fn fewer(turns: u64, to: usize, ok: bool) -> u64
-    requires { 0 < turns }
-    ensures { (result < turns) × (to ≡ 0 → result ≡ 0) × (ok ≡ false → result ≡ 0) × (0 < to → ok ≡ true → result ≡ turns - 1) }
-{
-    if to == 0 {
-        return 0;
-    }
-    if ok {
-        return turns - 1;
-    }
-    0
 }
 
 // What is told at the end of the input, and its write: how many places it was handed, and whether it took them all. Where a write failed nothing further
@@ -163,14 +136,14 @@ fn finish<W: Write>(output: &mut W, line: &[u8], p: Pending, out: &mut [u8], ok:
         × (ok ≡ false → result.count ≡ 0) × (ok ≡ false → result.ok ≡ false) }
     ensures leaves { result.ok ≡ true → Appends (W.contents output.old) (W.contents output.new) (take result.count out.new) }
 {
-    if ok {
-        let n = tell_last(line, p, out);
-        return write_answers(output, out, n);
+    if !ok {
+        return Written {
+            count: 0,
+            ok: false,
+        };
     }
-    Written {
-        count: 0,
-        ok: false,
-    }
+    let n = tell_last(line, p, out);
+    write_answers(output, out, n)
 }
 
 // Whether the input came to its end, and every read and every write went well.
@@ -182,7 +155,7 @@ fn ended_well(to: usize, read: bool, ok: bool) -> bool
 }
 
 // What is held at the end of the input, how many places were handed to the last write, whether the writes before it took everything, whether every read
-// went well and every write did, and whether all went well to the end of the input.
+// went well and every write did, and whether all went well to the end of the input. No Result: record Ended speaks of each, after a failure too.
 #[derive(Clone, Copy)]
 pub struct End {
     pub held: Pending,
@@ -193,7 +166,7 @@ pub struct End {
     pub all: bool,
 }
 
-// A proved loop has to end, and nothing says that the input does: the turns are counted down from a number that no run uses up.
+// A proved loop has to end, and nothing says that the input does: there is a number of turns that no run uses up.
 fn run<R: Read, W: Write>(
     input: &mut R,
     output: &mut W,
@@ -211,25 +184,21 @@ fn run<R: Read, W: Write>(
         to: 0,
         part: Part {
             taken: 0,
-            held: Pending {
-                len: 0,
-                over: false,
-            },
+            held: Pending { kept: Some(0) },
             count: 0,
         },
         ok: true,
         read: false,
     };
-    let mut turns = u64::MAX;
-    while turns > 0 {
+    for _ in 0..u64::MAX {
         s = turn_once(input, output, chunk, line, out, s);
-        turns = fewer(turns, s.to, s.ok);
+        if s.to == 0 || !s.ok {
+            break;
+        }
     }
-    let part = s.part;
-    let held = part.held;
-    let last = finish(output, line, held, out, s.ok);
+    let last = finish(output, line, s.part.held, out, s.ok);
     End {
-        held: held,
+        held: s.part.held,
         count: last.count,
         ok: s.ok,
         read: s.read,
@@ -238,27 +207,17 @@ fn run<R: Read, W: Write>(
     }
 }
 
-fn line_buffer() -> [u8; 20000]
-    ensures { 20000 ≡ length result }
-{
-    [0; 20000]
-}
-
-// 65,536 places, for what one read brings and for what one write is handed.
-fn large_buffer() -> [u8; 65536]
-    ensures { 65536 ≡ length result }
-{
-    [0; 65536]
-}
+// How many places there are for what one read brings, and for what one write is handed.
+const CHUNK: usize = 65536;
 
 // Its status is 0 where all that was read was told and taken, else 1, and a sentence on standard error says why. What standard input and output give and
 // take no contract can say, so there is nothing that it could ensure.
 fn main(rt: HostRuntime) -> ExitCode {
     let mut input = rt.stdin();
     let mut output = rt.stdout();
-    let mut chunk = large_buffer();
-    let mut line = line_buffer();
-    let mut out = large_buffer();
+    let mut chunk = [0; CHUNK];
+    let mut line = [0; 20000];
+    let mut out = [0; CHUNK];
     let end = run(&mut input, &mut output, &mut chunk, &mut line, &mut out);
     if !end.read {
         let _ = rt.eprintln("contact: the input could not be read");

@@ -13,8 +13,8 @@ use Rattle.manifold.specs.declared.Contact.{Contact}
 use Rattle.manifold.specs.declared.Answer.{Answer}
 use Rattle.manifold.specs.Records.{empty_contact, hit_set}
 use Rattle.hull_links.specs.declared.HullSize.{HullSize}
-use Rattle.collide_outcome.specs.declared.Built.{Built}
-use Rattle.collide_outcome.specs.declared.Cached.{Cached}
+use Rattle.collide_outcome.specs.Builds.{Built}
+use Rattle.collide_outcome.specs.Served.{Cached}
 use Rattle.collide_refusals.specs.Refusals.{refusal_of}
 use Rattle.collide_outcome.specs.Answers.{retired_of, accepted, refused_of, answer_of}
 use Rattle.collide.specs.Call.{after_cached, worked_of, collide_of}

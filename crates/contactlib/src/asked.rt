@@ -3,7 +3,7 @@ ghost use Rattle.std.specs.Prelude.{◌≡◌};
 ghost use Rattle.apart.specs.Question.{question_of};
 
 use apart::{Apart, are_apart};
-use hull_links::HullSize;
+use hull_links::{Hull, HullSize};
 use vector::Transform;
 
 // One question. It takes no cache, and requires nothing: a hull or a transform that breaks a rule is refused by its number, and the answer is no.
@@ -19,7 +19,15 @@ pub fn contact_apart(
     ensures { result ≡ question_of size_a numbers_a.now links_a.now size_b numbers_b.now
         links_b.now transform }
 {
-    are_apart(
-        numbers_a, links_a, size_a, numbers_b, links_b, size_b, transform,
-    )
+    let a = Hull {
+        numbers: numbers_a,
+        links: links_a,
+        size: size_a,
+    };
+    let b = Hull {
+        numbers: numbers_b,
+        links: links_b,
+        size: size_b,
+    };
+    are_apart(&a, &b, transform)
 }

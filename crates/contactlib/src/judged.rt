@@ -2,11 +2,17 @@
 ghost use Rattle.std.specs.Prelude.{◌≡◌};
 ghost use Rattle.hull.specs.Rule8.{broken_rule};
 
-use hull_links::HullSize;
+use hull::first_broken_rule;
+use hull_links::{Hull, HullSize, rule_number};
 
 // The first broken rule, 0 if none, whatever is lent. By it the call refuses: 1 where it is not 0 of hull A, 2 where it is 0 of A and not 0 of B.
 pub fn contact_first_broken_rule(numbers: &[f32], links: &[u8], size: HullSize) -> u8
     ensures { result ≡ broken_rule size numbers.now links.now }
 {
-    hull::first_broken_rule(numbers, links, size)
+    let hull = Hull {
+        numbers,
+        links,
+        size,
+    };
+    rule_number(first_broken_rule(&hull))
 }

@@ -3,7 +3,7 @@ ghost use Rattle.collide.specs.Call.{collide_of};
 ghost use Rattle.contactlib.specs.Lent.{Called};
 
 use collide::collide_core;
-use hull_links::HullSize;
+use hull_links::{Hull, HullSize};
 use manifold::{Outcome, SatCache};
 use vector::Transform;
 
@@ -22,9 +22,17 @@ pub fn contact_collide(
     ensures { Called (collide_of size_a numbers_a.now links_a.now size_b numbers_b.now
         links_b.now transform capacity cache.old) cache.old result cache.new }
 {
-    let answer = collide_core(
-        capacity, numbers_a, links_a, size_a, numbers_b, links_b, size_b, transform, *cache,
-    );
+    let a = Hull {
+        numbers: numbers_a,
+        links: links_a,
+        size: size_a,
+    };
+    let b = Hull {
+        numbers: numbers_b,
+        links: links_b,
+        size: size_b,
+    };
+    let answer = collide_core(capacity, &a, &b, transform, *cache);
     *cache = answer.cache;
     answer.outcome
 }

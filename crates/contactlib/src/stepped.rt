@@ -1,6 +1,7 @@
 // A step in one call, for hosts that ask about many pairs of the same hulls.
 ghost use Rattle.step.specs.Step.{Stepped};
 
+use pools::Pools;
 use step::{Step, step_over};
 
 // Every hull is judged once, and its first broken rule noted in `judged`; every pair is answered as `contact_collide` answers it with a capacity of 4.
@@ -20,7 +21,10 @@ pub fn contact_step(
         judged.old caches.old floats.old bytes.old result judged.new caches.new
         floats.new bytes.new }
 {
-    step_over(
-        numbers, links, hulls, pairs, transforms, judged, caches, floats, bytes,
-    )
+    let pools = Pools {
+        numbers,
+        links,
+        hulls,
+    };
+    step_over(&pools, pairs, transforms, judged, caches, floats, bytes)
 }

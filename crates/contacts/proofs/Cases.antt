@@ -23,8 +23,7 @@ use Rattle.clip.specs.Candidates.{candidates_of}
 use Rattle.reduce_scores.specs.Images.{image_of, least_separation_of, touching_of}
 use Rattle.reduce_points.specs.Points.{contact_of}
 use Rattle.reduce.specs.Reduce.{first_picks, points_of}
-use Rattle.collide_outcome.specs.declared.Built.{Built}
-use Rattle.collide_outcome.specs.Builds.{touched_of, missed, refused_at}
+use Rattle.collide_outcome.specs.Builds.{Built, touched_of, missed, refused_at}
 use Rattle.contacts.specs.Faces.{images_on, picks_on, contact_on_a, on_face, face_a_of}
 
 -- ---- the three cases of `on_face`

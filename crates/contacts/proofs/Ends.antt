@@ -12,7 +12,7 @@ use Rattle.rotation.specs.Rotation.{transform_point_of}
 use Rattle.hull_links.specs.declared.HullSize.{HullSize}
 use Rattle.hull_links.specs.Links.{twin, origin}
 use Rattle.hull.specs.Numbers.{vertex_at}
-use Rattle.collide_outcome.specs.declared.Built.{Built}
+use Rattle.collide_outcome.specs.Builds.{Built}
 use Rattle.contacts.specs.EdgePairs.{nearest_of, along_of, edge_contact_of}
 
 -- the vertex that a half-edge starts at, and the one that it ends at

@@ -24,8 +24,7 @@ use Rattle.reduce_points.specs.Points.{point_of, normal_of, contact_of}
 use Rattle.reduce.specs.Reduce.{first_picks, points_of}
 use Rattle.reduce.proofs.Chosen.{chosen, points_map}
 use Rattle.clip.specs.Candidates.{candidates_of}
-use Rattle.collide_outcome.specs.declared.Built.{Built}
-use Rattle.collide_outcome.specs.Builds.{touched_of, missed, refused_at}
+use Rattle.collide_outcome.specs.Builds.{Built, touched_of, missed, refused_at}
 use Rattle.contacts.specs.Faces.{images_on, picks_on, carried_of, contact_on_a, contact_on_b, on_face, face_a_of, face_b_of}
 use Rattle.contacts.specs.inner.Carried.{carried_point, carried_if_used, carried_contact}
 

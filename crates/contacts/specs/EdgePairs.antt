@@ -15,8 +15,7 @@ use Rattle.hull_links.specs.declared.HullSize.{HullSize}
 use Rattle.hull_links.specs.Links.{twin, origin}
 use Rattle.hull.specs.Numbers.{vertex_at}
 use Rattle.reduce_points.specs.Points.{point_of, contact_of}
-use Rattle.collide_outcome.specs.declared.Built.{Built}
-use Rattle.collide_outcome.specs.Builds.{touched_of, missed}
+use Rattle.collide_outcome.specs.Builds.{Built, touched_of, missed}
 
 -- the one point, of half-edges a and b: halfway between the nearest points, tagged with both
 unfoldable pub edge_point : LineDistance → Vec3 → ℕ → ℕ → ClipVertex

@@ -17,8 +17,7 @@ use Rattle.reduce_scores.specs.Images.{image_of, least_separation_of, touching_o
 use Rattle.reduce_points.specs.Points.{contact_of}
 use Rattle.reduce.specs.Reduce.{first_picks, points_of}
 use Rattle.clip.specs.Candidates.{candidates_of}
-use Rattle.collide_outcome.specs.declared.Built.{Built}
-use Rattle.collide_outcome.specs.Builds.{touched_of, missed, refused_at}
+use Rattle.collide_outcome.specs.Builds.{Built, touched_of, missed, refused_at}
 
 -- ---- images and picks, in the frame of a face with this normal, of hulls of this unit
 unfoldable pub images_on : Vec3 → List ClipVertex → List ClipVertex

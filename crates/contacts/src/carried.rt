@@ -3,6 +3,7 @@ ghost use Rattle.std.specs.Prelude.{◌≡◌};
 ghost use Rattle.contacts.specs.inner.Carried.{carried_point, carried_if_used, carried_contact};
 
 use manifold::pairs::flip_pair;
+use manifold::records::unused_point;
 use manifold::{Contact, Point};
 use vector::arithmetic::{add, neg};
 use vector::{Transform, Vec3};
@@ -11,13 +12,12 @@ use vector::{Transform, Vec3};
 fn carried_point(matrix: [[f32; 3]; 3], p: Vec3, point: Point) -> Point
     ensures { result ≡ carried_point matrix p point }
 {
-    let flipped = flip_pair(point.pair);
-    let pair = flipped.pair;
+    let none = unused_point().pair;
+    let pair = flip_pair(point.pair).unwrap_or(none);
     Point {
         position: add(rotation::mul_mv(matrix, point.position), p),
-        separation: point.separation,
         pair,
-        place: point.place,
+        ..point
     }
 }
 

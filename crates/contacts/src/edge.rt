@@ -1,19 +1,21 @@
 // The contact of a pair of edges: one point, halfway between the nearest points of the two lines, where both lie within their edges.
-ghost use Rattle.std.specs.Prelude.{◌≡◌, ◌<◌};
+ghost use Rattle.std.specs.Prelude.{◌≡◌, ◌<◌, Ok};
 ghost use Rattle.hull.specs.Accepted.{Accepted};
+ghost use Rattle.collide_outcome.specs.Told.{built_of};
 ghost use Rattle.contacts.specs.EdgePairs.{along_of, edge_contact_of};
 
-use collide_outcome::{Built, missed, touched};
-use hull_links::HullSize;
+use collide_outcome::{Build, missed, touched};
+use hull_links::Hull;
 use manifold::ClipVertex;
+use manifold::kinds::AxisKind;
 use manifold::pairs::{FeatureOwner, make_feature_pair};
 use vector::arithmetic::{add, dot, mul_sv, sub};
 use vector::awaited::{LineDistance, is_within_segments, line_distance};
 use vector::{Transform, Vec3};
 
 // The contact of half-edges `edge_a` and `edge_b` along this normal, where the lines lie nearest at `nearest`.
-fn along(nearest: LineDistance, normal: Vec3, edge_a: u8, edge_b: u8) -> Built
-    ensures { result ≡ along_of nearest normal edge_a edge_b }
+fn along(nearest: LineDistance, normal: Vec3, edge_a: u8, edge_b: u8) -> Build
+    ensures { built_of (Ok result) ≡ along_of nearest normal edge_a edge_b }
 {
     if !is_within_segments(nearest) {
         return missed();
@@ -27,59 +29,33 @@ fn along(nearest: LineDistance, normal: Vec3, edge_a: u8, edge_b: u8) -> Built
     touched(
         reduce_points::one_point(reduce_points::point_of(0, point), normal),
         separation,
-        4,
+        u8::from(AxisKind::Edges),
         edge_a,
         edge_b,
     )
 }
 
 pub fn build_edge_contact(
-    numbers_a: &[f32],
-    links_a: &[u8],
-    size_a: HullSize,
-    numbers_b: &[f32],
-    links_b: &[u8],
-    size_b: HullSize,
+    a: &Hull,
+    b: &Hull,
     transform: Transform,
     normal: Vec3,
     edge_a: u8,
     edge_b: u8,
-) -> Built
-    requires { Accepted size_a numbers_a.now links_a.now × Accepted size_b numbers_b.now links_b.now
-        × (edge_a < size_a.half_edges) × (edge_b < size_b.half_edges) }
-    ensures { result ≡ edge_contact_of size_a numbers_a.now links_a.now size_b numbers_b.now
-        links_b.now transform normal edge_a edge_b }
+) -> Build
+    requires { Accepted a.now.size a.now.numbers.now a.now.links.now × Accepted b.now.size b.now.numbers.now b.now.links.now
+        × (edge_a < a.now.size.half_edges) × (edge_b < b.now.size.half_edges) }
+    ensures { built_of (Ok result) ≡ edge_contact_of a.now.size a.now.numbers.now a.now.links.now b.now.size b.now.numbers.now
+        b.now.links.now transform normal edge_a edge_b }
 {
     let ea = edge_a as usize;
     let eb = edge_b as usize;
-    let twin_a = hull_links::twin_of(links_a, size_a, ea);
-    let p_a = hull::vertex_at(
-        numbers_a,
-        size_a,
-        hull_links::origin_of(links_a, size_a, ea),
-    );
-    let q_a = hull::vertex_at(
-        numbers_a,
-        size_a,
-        hull_links::origin_of(links_a, size_a, twin_a),
-    );
-    let twin_b = hull_links::twin_of(links_b, size_b, eb);
-    let p_b = rotation::transform_point(
-        transform,
-        hull::vertex_at(
-            numbers_b,
-            size_b,
-            hull_links::origin_of(links_b, size_b, eb),
-        ),
-    );
-    let q_b = rotation::transform_point(
-        transform,
-        hull::vertex_at(
-            numbers_b,
-            size_b,
-            hull_links::origin_of(links_b, size_b, twin_b),
-        ),
-    );
+    let twin_a = a.twin_of(ea);
+    let p_a = hull::vertex_at(a, a.origin_of(ea));
+    let q_a = hull::vertex_at(a, a.origin_of(twin_a));
+    let twin_b = b.twin_of(eb);
+    let p_b = rotation::transform_point(transform, hull::vertex_at(b, b.origin_of(eb)));
+    let q_b = rotation::transform_point(transform, hull::vertex_at(b, b.origin_of(twin_b)));
     let nearest = line_distance(p_a, sub(q_a, p_a), p_b, sub(q_b, p_b));
     along(nearest, normal, edge_a, edge_b)
 }

@@ -1,131 +1,90 @@
 // The contact on a face: its candidates' images, reduced to four points. Face B is face A with the roles swapped, carried into A's frame.
-ghost use Rattle.std.specs.Prelude.{◌≡◌, ◌≤◌, ◌<◌};
+ghost use Rattle.std.specs.Prelude.{◌≡◌, ◌≤◌, ◌<◌, Ok};
 ghost use Rattle.hull.specs.Accepted.{Accepted};
-ghost use Rattle.clip_corners.specs.Places.{Roomy, corners_in};
+ghost use Rattle.clip_corners.specs.Places.{corners_in};
+ghost use Rattle.collide_outcome.specs.Told.{built_of};
 ghost use Rattle.contacts.specs.Faces.{contact_on_a, on_face, face_a_of, face_b_of};
 
 use crate::carried::carried;
-use collide_outcome::{Built, missed, refused_at, touched};
-use hull_links::HullSize;
+use clip_corners::{Corners, Kept};
+use collide_outcome::{Build, Refusal, missed, touched};
+use hull_links::Hull;
 use manifold::SatCache;
+use manifold::kinds::AxisKind;
 use reduce::reduce_manifold_points;
 use reduce_scores::images::{least_separation, touching};
 use units::speculative_distance;
 use vector::{Transform, Vec3};
 
-// The contact of the n candidates of a face that stand in the lists from corner `from` on, in hulls of this unit.
-fn on_face(
-    places: &[f32],
-    tags: &[u8],
-    from: usize,
-    n: usize,
-    normal: Vec3,
-    face: u8,
-    vertex: u8,
-    unit: usize,
-) -> Built
-    requires { Roomy places.now tags.now × (from ≤ 64) × (n ≤ 64) }
-    ensures { let candidates = corners_in places.now tags.now from n in
-        result ≡ on_face unit (contact_on_a unit normal candidates) 2 face vertex candidates }
+// The contact of the candidates of a face that are kept, in hulls of this unit.
+fn on_face(corners: &Corners, kept: Kept, normal: Vec3, face: u8, vertex: u8, unit: usize) -> Build
+    requires { (kept.from ≤ 64) × (kept.count ≤ 64) }
+    ensures { let candidates = corners_in corners.now.numbers corners.now.tags kept.from kept.count in
+        built_of (Ok result) ≡ on_face unit (contact_on_a unit normal candidates) 2 face vertex candidates }
 {
-    let least = least_separation(places, tags, from, n);
-    if !touching(speculative_distance(unit), n, least) {
+    let least = least_separation(corners, kept.from, kept.count);
+    if !touching(speculative_distance(unit), kept.count, least) {
         return missed();
     }
-    let contact = reduce_manifold_points(places, tags, from, n, normal, unit);
-    touched(contact, least, 2, face, vertex)
+    let contact = reduce_manifold_points(corners, kept.from, kept.count, normal, unit);
+    touched(contact, least, u8::from(AxisKind::FaceA), face, vertex)
 }
 
-// The contact on a face of A, where `vertex` is the vertex of B that is deepest below it. A vertex that B does not have is refusal 5, a 65th corner
-// of a cut refusal 6. The candidates are cut in the lent lists, and what these hold then is of no more use.
+// The contact on a face of A, where `vertex` is the vertex of B that is deepest below it. Refused are a vertex that B does not have and a 65th corner of
+// a cut. The candidates are cut in the lent corners, and what these hold then is of no more use.
 pub fn build_face_a_contact(
-    numbers_a: &[f32],
-    links_a: &[u8],
-    size_a: HullSize,
-    numbers_b: &[f32],
-    links_b: &[u8],
-    size_b: HullSize,
+    a: &Hull,
+    b: &Hull,
     transform: Transform,
     face: u8,
     vertex: u8,
-    places: &mut [f32],
-    tags: &mut [u8],
-) -> Built
-    requires { Accepted size_a numbers_a.now links_a.now × Accepted size_b numbers_b.now links_b.now × (face < size_a.faces)
-        × Roomy places.old tags.old }
-    ensures { (result ≡ face_a_of size_a numbers_a.now links_a.now size_b numbers_b.now
-        links_b.now transform face vertex) × Roomy places.new tags.new }
+    corners: &mut Corners,
+) -> Result<Build, Refusal>
+    requires { Accepted a.now.size a.now.numbers.now a.now.links.now × Accepted b.now.size b.now.numbers.now b.now.links.now
+        × (face < a.now.size.faces) }
+    ensures { built_of result ≡ face_a_of a.now.size a.now.numbers.now a.now.links.now b.now.size b.now.numbers.now
+        b.now.links.now transform face vertex }
 {
     let f = face as usize;
     let v = vertex as usize;
-    if v >= size_b.vertices {
-        return refused_at(5);
+    if v >= b.size.vertices {
+        return Err(Refusal::Vertex);
     }
-    let kept = clip::candidates(
-        numbers_a, links_a, size_a, numbers_b, links_b, size_b, transform, f, v, places, tags,
-    );
+    let kept = clip::candidates(a, b, transform, f, v, corners);
     if kept.count > 64 {
-        return refused_at(6);
+        return Err(Refusal::Corners);
     }
-    let plane = hull::plane_at(numbers_a, size_a, f);
-    on_face(
-        places,
-        tags,
-        kept.from,
-        kept.count,
-        plane.normal,
-        face,
-        vertex,
-        size_a.unit,
-    )
+    let plane = hull::plane_at(a, f);
+    Ok(on_face(corners, kept, plane.normal, face, vertex, a.size.unit))
 }
 
 // The contact on a face of B, where `vertex` is the vertex of A that is deepest below it.
 pub fn build_face_b_contact(
-    numbers_a: &[f32],
-    links_a: &[u8],
-    size_a: HullSize,
-    numbers_b: &[f32],
-    links_b: &[u8],
-    size_b: HullSize,
+    a: &Hull,
+    b: &Hull,
     transform: Transform,
     face: u8,
     vertex: u8,
-    places: &mut [f32],
-    tags: &mut [u8],
-) -> Built
-    requires { Accepted size_a numbers_a.now links_a.now × Accepted size_b numbers_b.now links_b.now × (face < size_b.faces)
-        × Roomy places.old tags.old }
-    ensures { (result ≡ face_b_of size_a numbers_a.now links_a.now size_b numbers_b.now
-        links_b.now transform face vertex) × Roomy places.new tags.new }
+    corners: &mut Corners,
+) -> Result<Build, Refusal>
+    requires { Accepted a.now.size a.now.numbers.now a.now.links.now × Accepted b.now.size b.now.numbers.now b.now.links.now
+        × (face < b.now.size.faces) }
+    ensures { built_of result ≡ face_b_of a.now.size a.now.numbers.now a.now.links.now b.now.size b.now.numbers.now
+        b.now.links.now transform face vertex }
 {
-    let built = build_face_a_contact(
-        numbers_b,
-        links_b,
-        size_b,
-        numbers_a,
-        links_a,
-        size_a,
-        rotation::invert_transform(transform),
-        face,
-        vertex,
-        places,
-        tags,
-    );
-    if !built.touching {
-        return built;
-    }
-    let contact = built.contact;
-    Built {
-        status: 0,
-        touching: true,
-        contact: carried(transform, contact),
-        cache: SatCache {
-            separation: built.cache.separation,
-            kind: 3,
-            index_a: vertex,
-            index_b: face,
-            hit: 0,
-        },
+    let inverse = rotation::invert_transform(transform);
+    let built = build_face_a_contact(b, a, inverse, face, vertex, corners)?;
+    match built.contact {
+        None => Ok(built),
+        Some(contact) => Ok(Build {
+            contact: Some(carried(transform, contact)),
+            cache: SatCache {
+                kind: u8::from(AxisKind::FaceB),
+                index_a: vertex,
+                index_b: face,
+                hit: 0,
+                ..built.cache
+            },
+        }),
     }
 }

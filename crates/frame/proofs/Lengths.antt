@@ -8,8 +8,7 @@ use lib.Dec.{eqb, ltb}
 use lib.ListN.{length, take}
 use Rattle.root.specs.Root.{root_of}
 use Rattle.manifold.specs.declared.Answer.{Answer}
-use Rattle.manifold.specs.declared.pairs.Flipped.{Flipped}
-use Rattle.manifold.specs.Pairs.{flip_of}
+use Rattle.manifold.specs.Pairs.{Flipped, flip_of}
 use Rattle.lists.specs.Written.{Wrote}
 use Rattle.frame_encode.specs.Bytes.{float_bytes, pair_bytes, answer_bytes, longest_answer}
 use Rattle.lists.proofs.Written.{wrote_same}

@@ -1,6 +1,6 @@
 -- Answers that are put, and the answer to a frame case by case. Assumes nothing.
 use Prim.Native.Nat.{ℕ, ◌/◌, ◌<◌, ◌≤◌}
-use mathlib.Core.Path.{◌≡◌, refl, sym, ap, ◌∙◌}
+use mathlib.Core.Path.{◌≡◌, refl, sym, ap, subst, ◌∙◌}
 use mathlib.Core.Bool.{true, false}
 use mathlib.Core.List.{List, [], ◌∷◌, ◌++◌}
 use native.Mathlib.Omega.{arith}
@@ -8,8 +8,7 @@ use lib.ListN.{length, get_or, take, drop}
 use lib.Seq.{take_at}
 use borrow.Author.Tests.{lt-ltb, le-ltb, eq-eqb, ne_eqb}
 use Rattle.root.specs.Root.{root_of}
-use Rattle.manifold.specs.declared.pairs.Flipped.{Flipped}
-use Rattle.manifold.specs.Pairs.{flip_of}
+use Rattle.manifold.specs.Pairs.{Flipped, flip_of}
 use Rattle.lists.specs.Written.{Wrote}
 use Rattle.frame_encode.specs.Bytes.{float_bytes, pair_bytes, answer_bytes}
 use Rattle.lists.proofs.Written.{front}
@@ -17,9 +16,12 @@ use Rattle.frame_decode.specs.Fields.{float_at, pair_at}
 use Rattle.lists.proofs.Tables.{table_length}
 use Rattle.frame_hex.specs.Hex.{hex_line, byte_of, bytes_of, hex_of}
 use Rattle.frame_call.specs.Requests.{call_length, call_of}
+use Rattle.std.specs.Prelude.{Result, Ok, Err, IsErrAnd}
+use Rattle.frame.specs.declared.Fault.{Fault}
 use Rattle.frame.specs.Answers.{Answers}
 use Rattle.frame.specs.Frames.{fault_of, root_answer, flipped_answer, flip_answer, call_answer, frame_answer}
 use Rattle.frame.specs.Lines.{answered_of, line_answer}
+use Rattle.frame.specs.inner.Faults.{number_of, Tried, Told}
 
 -- what was written from the first place on is put
 pub put : {vs o m : List ℕ} {r : ℕ} → Wrote o 0 vs m → length vs ≤ length o → r ≡ length vs → Answers vs o r m
@@ -27,6 +29,21 @@ put w l e = record { count = e; bytes = front w l }
 
 pub answers_same : {vs ws o m : List ℕ} {r : ℕ} → Answers vs o r m → vs ≡ ws → Answers ws o r m
 answers_same {o = o} a e = record { count = a.count ∙ ap length e; bytes = a.bytes ∙ ap (λ v. v ++ drop (length v) o) e }
+
+pub tried_same : {vs ws : List ℕ} (o m : List ℕ) (r : Result ℕ Fault) → Tried vs o r m → vs ≡ ws → Tried ws o r m
+tried_same o m (Ok n) t e = answers_same t e
+tried_same o m (Err fault) t e = (sym e ∙ t.0, t.1)
+
+-- a fault that is passed on
+pub tried_err : {vs : List ℕ} (o : List ℕ) (r : Result ℕ Fault) (fault : Fault) → IsErrAnd r (λ e. e ≡ fault) → vs ≡ fault_of (number_of fault)
+    → Tried vs o r o
+tried_err o (Ok n) _ h e = absurd h
+tried_err o (Err fault) _ h e = (e ∙ ap (λ x. fault_of (number_of x)) (sym h), refl)
+
+-- an answer, or the fault in its place
+pub told : {vs o m2 : List ℕ} (m : List ℕ) {n : ℕ} (r : Result ℕ Fault) → Tried vs o r m → Told r m n m2 → Answers vs o n m2
+told m (Ok k) t u = record { count = u.0 ∙ t.count; bytes = u.1 ∙ t.bytes }
+told {vs} {m2 = m2} m {n} (Err fault) t u = subst (λ l. Answers vs l n m2) t.1 (answers_same u (sym t.0))
 
 module _ (f : List ℕ) where
   -- ---- kinds 10, 11 and 12: the wrong length, and the right one

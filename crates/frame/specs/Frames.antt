@@ -1,8 +1,7 @@
 -- The answer to one frame of bytes, its kind first: document 01's section "The hex program". Definitions only.
 use Rattle.std.specs.Prelude.{ℕ, cond, List, [], ◌∷◌, eqb, length}
 use Rattle.root.specs.Root.{root_of}
-use Rattle.manifold.specs.declared.pairs.Flipped.{Flipped}
-use Rattle.manifold.specs.Pairs.{flip_of}
+use Rattle.manifold.specs.Pairs.{Flipped, flip_of}
 use Rattle.frame_encode.specs.Bytes.{float_bytes, pair_bytes, answer_bytes}
 use Rattle.frame_decode.specs.Fields.{float_at, pair_at}
 use Rattle.frame_call.specs.Requests.{call_length, call_of}

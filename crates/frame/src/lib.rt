@@ -4,89 +4,146 @@
 
 pub mod lines;
 
-ghost use Rattle.std.specs.Prelude.{◌≤◌, length};
+ghost use Rattle.std.specs.Prelude.{◌≡◌, ◌≤◌, length};
 ghost use Rattle.frame_encode.specs.Bytes.{longest_answer};
 ghost use Rattle.frame.specs.Answers.{Answers};
-ghost use Rattle.frame.specs.Frames.{fault_of, root_answer, flipped_answer, flip_answer, call_answer, frame_answer};
+ghost use Rattle.frame.specs.Frames.{root_answer, flip_answer, call_answer, frame_answer};
+ghost use Rattle.frame.specs.inner.Faults.{number_of, Named, Tried, Told};
 
 use frame_call::call_of;
 use frame_decode::hulls::hull_length;
 use frame_decode::{float_at, pair_at, size_at};
 use frame_encode::{LONGEST_ANSWER, put_answer, put_float, put_pair};
-use lists::write_byte;
-use manifold::pairs::{Flipped, flip_pair};
+use lists::write;
+use manifold::pairs::flip_pair;
 use root::root;
 
-// ff and the fault's number.
-fn put_fault(answer: &mut [u8], number: u8) -> usize
-    requires { longest_answer ≤ length answer.old }
-    ensures { Answers (fault_of number) answer.old result answer.new }
-{
-    write_byte(answer, 0, 0xff);
-    write_byte(answer, 1, number);
-    2
+// Why a frame or a line is answered by a fault.
+#[derive(Clone, Copy)]
+enum Fault {
+    // Refusal 8.
+    WrongOwner,
+    NoHex,
+    NoSuchKind,
+    WrongLength,
+    TooLong,
 }
 
-// Kind 10.
-fn root_answer(frame: &[u8], answer: &mut [u8]) -> usize
+impl From<Fault> for u8 {
+    ghost from_gives = { λ fault number. number ≡ number_of fault };
+
+    fn from(fault: Fault) -> u8 {
+        match fault {
+            Fault::WrongOwner => 0x08,
+            Fault::NoHex => 0x21,
+            Fault::NoSuchKind => 0x22,
+            Fault::WrongLength => 0x23,
+            Fault::TooLong => 0x24,
+        }
+    }
+}
+
+// What a frame asks for.
+#[derive(Clone, Copy)]
+enum Kind {
+    Root,
+    Flip,
+    Call,
+}
+
+impl TryFrom<u8> for Kind {
+    type Error = Fault;
+
+    ghost try_from_gives = { Named };
+
+    fn try_from(byte: u8) -> Result<Kind, Fault> {
+        match byte {
+            0x10 => Ok(Kind::Root),
+            0x11 => Ok(Kind::Flip),
+            0x12 => Ok(Kind::Call),
+            _ => Err(Fault::NoSuchKind),
+        }
+    }
+}
+
+// What was tried has its answer, or is answered by the fault: ff and the fault's number.
+fn or_fault(tried: Result<usize, Fault>, answer: &mut [u8]) -> usize
     requires { longest_answer ≤ length answer.old }
-    ensures { Answers (root_answer frame.now) answer.old result answer.new }
+    ensures { Told tried answer.old result answer.new }
+{
+    match tried {
+        Ok(count) => count,
+        Err(fault) => {
+            write(answer, 0, 0xff);
+            write(answer, 1, u8::from(fault));
+            2
+        }
+    }
+}
+
+fn root_answer(frame: &[u8], answer: &mut [u8]) -> Result<usize, Fault>
+    requires { longest_answer ≤ length answer.old }
+    ensures { Tried (root_answer frame.now) answer.old result answer.new }
 {
     if frame.len() != 5 {
-        return put_fault(answer, 0x23);
+        return Err(Fault::WrongLength);
     }
-    write_byte(answer, 0, 0x90);
-    let x = root(float_at(frame, 1));
-    put_float(answer, 1, x);
-    5
+    write(answer, 0, 0x90);
+    put_float(answer, 1, root(float_at(frame, 1)));
+    Ok(5)
 }
 
-// A pair that was flipped, or refusal 8.
-fn flipped_answer(flipped: Flipped, answer: &mut [u8]) -> usize
+// Refusal 8 is a fault too.
+fn flip_answer(frame: &[u8], answer: &mut [u8]) -> Result<usize, Fault>
     requires { longest_answer ≤ length answer.old }
-    ensures { Answers (flipped_answer flipped) answer.old result answer.new }
-{
-    if flipped.status != 0 {
-        return put_fault(answer, 0x08);
-    }
-    write_byte(answer, 0, 0x91);
-    let pair = flipped.pair;
-    put_pair(answer, 1, pair);
-    5
-}
-
-// Kind 11.
-fn flip_answer(frame: &[u8], answer: &mut [u8]) -> usize
-    requires { longest_answer ≤ length answer.old }
-    ensures { Answers (flip_answer frame.now) answer.old result answer.new }
+    ensures { Tried (flip_answer frame.now) answer.old result answer.new }
 {
     if frame.len() != 5 {
-        return put_fault(answer, 0x23);
+        return Err(Fault::WrongLength);
     }
-    let flipped = flip_pair(pair_at(frame, 1));
-    flipped_answer(flipped, answer)
+    match flip_pair(pair_at(frame, 1)) {
+        None => Err(Fault::WrongOwner),
+        Some(pair) => {
+            write(answer, 0, 0x91);
+            put_pair(answer, 1, pair);
+            Ok(5)
+        }
+    }
 }
 
-// Kind 12. Each hull's length follows from the sizes that are sent, whatever they are: sizes that no hull has are refused by H1 and are no fault.
-fn call_answer(frame: &[u8], answer: &mut [u8]) -> usize
+// Each hull's length follows from the sizes that are sent, whatever they are: sizes that no hull has are refused by H1 and are no fault.
+fn call_answer(frame: &[u8], answer: &mut [u8]) -> Result<usize, Fault>
     requires { longest_answer ≤ length answer.old }
-    ensures { Answers (call_answer frame.now) answer.old result answer.new }
+    ensures { Tried (call_answer frame.now) answer.old result answer.new }
 {
     if frame.len() < 49 {
-        return put_fault(answer, 0x23);
+        return Err(Fault::WrongLength);
     }
     let size_a = size_at(frame, 41);
     let at = 41 + hull_length(size_a);
     if frame.len() < at + 8 {
-        return put_fault(answer, 0x23);
+        return Err(Fault::WrongLength);
     }
     let size_b = size_at(frame, at);
     if frame.len() != at + hull_length(size_b) {
-        return put_fault(answer, 0x23);
+        return Err(Fault::WrongLength);
     }
-    let called = call_of(frame, size_a, at, size_b);
-    put_answer(answer, called);
-    LONGEST_ANSWER
+    put_answer(answer, call_of(frame, size_a, at, size_b));
+    Ok(LONGEST_ANSWER)
+}
+
+fn try_frame(frame: &[u8], answer: &mut [u8]) -> Result<usize, Fault>
+    requires { longest_answer ≤ length answer.old }
+    ensures { Tried (frame_answer frame.now) answer.old result answer.new }
+{
+    if frame.is_empty() {
+        return Err(Fault::NoSuchKind);
+    }
+    match Kind::try_from(frame[0])? {
+        Kind::Root => root_answer(frame, answer),
+        Kind::Flip => flip_answer(frame, answer),
+        Kind::Call => call_answer(frame, answer),
+    }
 }
 
 // The answer to a frame.
@@ -94,14 +151,6 @@ pub fn frame_answer(frame: &[u8], answer: &mut [u8]) -> usize
     requires { longest_answer ≤ length answer.old }
     ensures { Answers (frame_answer frame.now) answer.old result answer.new }
 {
-    if frame.len() == 0 {
-        return put_fault(answer, 0x22);
-    }
-    let kind = frame[0];
-    match kind {
-        0x10 => root_answer(frame, answer),
-        0x11 => flip_answer(frame, answer),
-        0x12 => call_answer(frame, answer),
-        0..=0x0f | 0x13..=255 => put_fault(answer, 0x22),
-    }
+    let tried = try_frame(frame, answer);
+    or_fault(tried, answer)
 }

@@ -9,29 +9,21 @@ ghost use Rattle.frame_call.specs.Requests.{Sized, call_of};
 use collide::collide_core;
 use frame_decode::hulls::{links_from, planes_at, take_numbers};
 use frame_decode::{cache_at, capacity_at, transform_at};
-use hull_links::{HullSize, planes_from};
+use hull_links::{Hull, HullSize, planes_from};
 use manifold::Answer;
 
-// Room for the numbers of the largest hull that H1 allows.
-fn large_room() -> [f32; 902]
-    ensures { 902 ≡ length result }
-{
-    [0.0; 902]
-}
+// How many numbers the largest hull has that H1 allows, and a small one at the most: a cube has 54 and a log 134. Room for them is cleared before it is
+// filled, so a small one is faster.
+const LARGE: usize = 902;
 
-// Room for the numbers of a small hull: a cube has 54 and a log 134. A room is cleared before it is filled, so a small one is faster.
-fn small_room() -> [f32; 256]
-    ensures { 256 ≡ length result }
-{
-    [0.0; 256]
-}
+const SMALL: usize = 256;
 
 // Whether the numbers of a hull fit into the small room.
 fn fits_small(s: HullSize) -> bool
     requires { Sent s }
     ensures { result ≡ leb (number_count s) 256 }
 {
-    planes_from(s) + 4 * s.faces <= 256
+    planes_from(s) + 4 * s.faces <= SMALL
 }
 
 // The call that a frame of the right length asks for, in two rooms that are lent: each holds what is taken of its hull's numbers. The links are lent where
@@ -50,23 +42,22 @@ fn call_in(
 {
     let count_a = take_numbers(frame, 41, size_a, numbers_a);
     let count_b = take_numbers(frame, at, size_b, numbers_b);
-    let from_a = links_from(size_a, 41);
-    let to_a = planes_at(size_a, 41);
-    let from_b = links_from(size_b, at);
-    let to_b = planes_at(size_b, at);
-    let transform = transform_at(frame, 13);
-    let cache = cache_at(frame, 5);
-    let capacity = capacity_at(frame, 1);
+    let a = Hull {
+        numbers: &numbers_a[..count_a],
+        links: &frame[links_from(size_a, 41)..planes_at(size_a, 41)],
+        size: size_a,
+    };
+    let b = Hull {
+        numbers: &numbers_b[..count_b],
+        links: &frame[links_from(size_b, at)..planes_at(size_b, at)],
+        size: size_b,
+    };
     collide_core(
-        capacity,
-        &numbers_a[..count_a],
-        &frame[from_a..to_a],
-        size_a,
-        &numbers_b[..count_b],
-        &frame[from_b..to_b],
-        size_b,
-        transform,
-        cache,
+        capacity_at(frame, 1),
+        &a,
+        &b,
+        transform_at(frame, 13),
+        cache_at(frame, 5),
     )
 }
 
@@ -75,14 +66,22 @@ pub fn call_of(frame: &[u8], size_a: HullSize, at: usize, size_b: HullSize) -> A
     requires { Sized frame.now size_a at size_b }
     ensures { result ≡ call_of frame.now }
 {
-    if fits_small(size_a) {
-        if fits_small(size_b) {
-            let mut numbers_a = small_room();
-            let mut numbers_b = small_room();
-            return call_in(frame, size_a, at, size_b, &mut numbers_a, &mut numbers_b);
-        }
+    if fits_small(size_a) && fits_small(size_b) {
+        return call_in(
+            frame,
+            size_a,
+            at,
+            size_b,
+            &mut [0.0; SMALL],
+            &mut [0.0; SMALL],
+        );
     }
-    let mut numbers_a = large_room();
-    let mut numbers_b = large_room();
-    call_in(frame, size_a, at, size_b, &mut numbers_a, &mut numbers_b)
+    call_in(
+        frame,
+        size_a,
+        at,
+        size_b,
+        &mut [0.0; LARGE],
+        &mut [0.0; LARGE],
+    )
 }

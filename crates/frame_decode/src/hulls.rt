@@ -42,10 +42,8 @@ fn take_floats(frame: &[u8], at: usize, n: usize, numbers: &mut [f32], from: usi
     requires { (from + n ≤ length numbers.old) × (at + 4 * n ≤ length frame.now) }
     ensures { Wrote numbers.old from (floats_at frame.now at n) numbers.new }
 {
-    let mut i = 0;
-    while i < n {
+    for i in 0..n {
         numbers[from + i] = float_at(frame, at + 4 * i);
-        i += 1;
     }
 }
 
@@ -61,7 +59,6 @@ pub fn take_numbers(frame: &[u8], at: usize, s: HullSize, numbers: &mut [f32]) -
         return 0;
     }
     take_floats(frame, at + 8, before, numbers, 0);
-    let behind = planes_at(s, at);
-    take_floats(frame, behind, planes, numbers, before);
+    take_floats(frame, planes_at(s, at), planes, numbers, before);
     before + planes
 }

@@ -7,7 +7,7 @@ ghost use Rattle.lists.specs.Written.{Wrote};
 ghost use Rattle.frame_encode.specs.Bytes.{bytes32, float_bytes, vec_bytes, pair_bytes, point_bytes, points_bytes, cache_bytes, head_bytes, longest_answer};
 ghost use Rattle.frame_encode.specs.Bytes.{places_bytes, answer_bytes};
 
-use lists::write_byte;
+use lists::write;
 use manifold::bits::bits_of;
 use manifold::{Answer, Contact, FeaturePair, Point, SatCache};
 use vector::Vec3;
@@ -19,10 +19,11 @@ pub fn put_number(out: &mut [u8], at: usize, x: u32)
     requires { at + 4 ≤ length out.old }
     ensures { Wrote out.old at (bytes32 x) out.new }
 {
-    write_byte(out, at, (x / 16777216) as u8);
-    write_byte(out, at + 1, (x / 65536 % 256) as u8);
-    write_byte(out, at + 2, (x / 256 % 256) as u8);
-    write_byte(out, at + 3, (x % 256) as u8);
+    let [first, second, third, fourth] = x.to_be_bytes();
+    write(out, at, first);
+    write(out, at + 1, second);
+    write(out, at + 2, third);
+    write(out, at + 3, fourth);
 }
 
 // A NaN is 7fc00000.
@@ -30,8 +31,7 @@ pub fn put_float(out: &mut [u8], at: usize, x: f32)
     requires { at + 4 ≤ length out.old }
     ensures { Wrote out.old at (float_bytes x) out.new }
 {
-    let bits = bits_of(x);
-    put_number(out, at, bits);
+    put_number(out, at, bits_of(x));
 }
 
 pub fn put_vec(out: &mut [u8], at: usize, v: Vec3)
@@ -47,21 +47,19 @@ pub fn put_pair(out: &mut [u8], at: usize, p: FeaturePair)
     requires { at + 4 ≤ length out.old }
     ensures { Wrote out.old at (pair_bytes p) out.new }
 {
-    write_byte(out, at, p.owner1);
-    write_byte(out, at + 1, p.index1);
-    write_byte(out, at + 2, p.owner2);
-    write_byte(out, at + 3, p.index2);
+    write(out, at, p.owner1);
+    write(out, at + 1, p.index1);
+    write(out, at + 2, p.owner2);
+    write(out, at + 3, p.index2);
 }
 
 pub fn put_point(out: &mut [u8], at: usize, p: Point)
     requires { at + 20 ≤ length out.old }
     ensures { Wrote out.old at (point_bytes p) out.new }
 {
-    let position = p.position;
-    put_vec(out, at, position);
+    put_vec(out, at, p.position);
     put_float(out, at + 12, p.separation);
-    let pair = p.pair;
-    put_pair(out, at + 16, pair);
+    put_pair(out, at + 16, p.pair);
 }
 
 pub fn put_cache(out: &mut [u8], at: usize, c: SatCache)
@@ -69,10 +67,10 @@ pub fn put_cache(out: &mut [u8], at: usize, c: SatCache)
     ensures { Wrote out.old at (cache_bytes c) out.new }
 {
     put_number(out, at, c.separation);
-    write_byte(out, at + 4, c.kind);
-    write_byte(out, at + 5, c.index_a);
-    write_byte(out, at + 6, c.index_b);
-    write_byte(out, at + 7, c.hit);
+    write(out, at + 4, c.kind);
+    write(out, at + 5, c.index_a);
+    write(out, at + 6, c.index_b);
+    write(out, at + 7, c.hit);
 }
 
 // 92, the status, the cache, the count and the normal.
@@ -80,13 +78,11 @@ fn put_head(out: &mut [u8], a: Answer)
     requires { longest_answer ≤ length out.old }
     ensures { Wrote out.old 0 (head_bytes a) out.new }
 {
-    write_byte(out, 0, 0x92);
-    write_byte(out, 1, a.outcome.status);
-    let cache = a.cache;
-    put_cache(out, 2, cache);
-    write_byte(out, 10, a.outcome.contact.count);
-    let normal = a.outcome.contact.normal;
-    put_vec(out, 11, normal);
+    write(out, 0, 0x92);
+    write(out, 1, a.outcome.status);
+    put_cache(out, 2, a.cache);
+    write(out, 10, a.outcome.contact.count);
+    put_vec(out, 11, a.outcome.contact.normal);
 }
 
 // The four points, unused ones too.
@@ -94,14 +90,10 @@ fn put_points(out: &mut [u8], k: Contact)
     requires { longest_answer ≤ length out.old }
     ensures { Wrote out.old 23 (points_bytes k) out.new }
 {
-    let points = k.points;
-    let first = points[0];
+    let [first, second, third, fourth] = k.points;
     put_point(out, 23, first);
-    let second = points[1];
     put_point(out, 43, second);
-    let third = points[2];
     put_point(out, 63, third);
-    let fourth = points[3];
     put_point(out, 83, fourth);
 }
 
@@ -110,11 +102,11 @@ pub fn put_places(out: &mut [u8], at: usize, k: Contact)
     requires { at + 4 ≤ length out.old }
     ensures { Wrote out.old at (places_bytes k) out.new }
 {
-    let points = k.points;
-    write_byte(out, at, points[0].place);
-    write_byte(out, at + 1, points[1].place);
-    write_byte(out, at + 2, points[2].place);
-    write_byte(out, at + 3, points[3].place);
+    let [first, second, third, fourth] = k.points;
+    write(out, at, first.place);
+    write(out, at + 1, second.place);
+    write(out, at + 2, third.place);
+    write(out, at + 3, fourth.place);
 }
 
 // The answer to a call: the head, the points, their candidates' places, and last the mark of a retired type.
@@ -123,8 +115,7 @@ pub fn put_answer(out: &mut [u8], a: Answer)
     ensures { Wrote out.old 0 (answer_bytes a) out.new }
 {
     put_head(out, a);
-    let contact = a.outcome.contact;
-    put_points(out, contact);
-    put_places(out, 103, contact);
-    write_byte(out, 107, a.outcome.retired);
+    put_points(out, a.outcome.contact);
+    put_places(out, 103, a.outcome.contact);
+    write(out, 107, a.outcome.retired);
 }

@@ -2,48 +2,27 @@
 // The loops have no way out but their end, so that the compiler can do several characters at once.
 #![tactic(auto)]
 
-ghost use Rattle.std.specs.Prelude.{true, cond, ◌≡◌, ◌*◌, ◌/◌, ◌%◌, ◌≤◌, ◌<◌, length};
+ghost use Rattle.std.specs.Prelude.{true, ◌≡◌, ◌*◌, ◌/◌, ◌≤◌, ◌<◌, length};
 ghost use Rattle.lists.specs.Written.{Wrote};
 ghost use Rattle.frame_hex.specs.Hex.{hex_digit, digit_value_of, digit_of, hex_line, byte_of, bytes_of, hex_of};
 
-use lists::write_byte;
+use lists::write;
 
 fn hex_digit(c: u8) -> bool
     ensures { result ≡ hex_digit c }
 {
-    if c <= 57 {
-        return 48 <= c;
-    }
-    if c <= 102 {
-        return 97 <= c;
-    }
-    false
-}
-
-// 1 once a character was no digit.
-fn noted(bad: u8, c: u8) -> u8
-    ensures { result ≡ cond (hex_digit c) bad 1 }
-{
-    if hex_digit(c) {
-        return bad;
-    }
-    1
+    matches!(c, b'0'..=b'9' | b'a'..=b'f')
 }
 
 // Whether the line has digits only, and an even number of them.
 pub fn hex_line(line: &[u8]) -> bool
     ensures { result ≡ hex_line line.now }
 {
-    let mut bad = 0;
-    let mut i = 0;
-    while i < line.len() {
-        bad = noted(bad, line[i]);
-        i += 1;
+    let mut digits = true;
+    for &c in line {
+        digits &= hex_digit(c);
     }
-    if bad != 0 {
-        return false;
-    }
-    line.len() % 2 == 0
+    digits && line.len() % 2 == 0
 }
 
 // The number that a digit stands for.
@@ -51,10 +30,7 @@ fn value_of(c: u8) -> u8
     requires { hex_digit c ≡ true }
     ensures { (result ≡ digit_value_of c) × (result < 16) }
 {
-    if c <= 57 {
-        return c - 48;
-    }
-    c - 87
+    if c <= b'9' { c - b'0' } else { c - b'a' + 10 }
 }
 
 // Byte i of the line.
@@ -72,11 +48,8 @@ pub fn take_bytes(line: &[u8], bytes: &mut [u8])
     requires { (hex_line line.now ≡ true) × (length line.now / 2 ≤ length bytes.old) }
     ensures { Wrote bytes.old 0 (bytes_of line.now) bytes.new }
 {
-    let n = line.len() / 2;
-    let mut i = 0;
-    while i < n {
+    for i in 0..line.len() / 2 {
         bytes[i] = byte_of(line, i);
-        i += 1;
     }
 }
 
@@ -85,22 +58,7 @@ fn digit_of(v: u8) -> u8
     requires { v < 16 }
     ensures { result ≡ digit_of v }
 {
-    if v < 10 {
-        return v + 48;
-    }
-    v + 87
-}
-
-fn high_digit(b: u8) -> u8
-    ensures { result ≡ digit_of (b / 16) }
-{
-    digit_of(b / 16)
-}
-
-fn low_digit(b: u8) -> u8
-    ensures { result ≡ digit_of (b % 16) }
-{
-    digit_of(b % 16)
+    if v < 10 { b'0' + v } else { b'a' + (v - 10) }
 }
 
 // The line of these bytes, from the first place on.
@@ -108,11 +66,8 @@ pub fn put_hex(bytes: &[u8], line: &mut [u8])
     requires { 2 * length bytes.now ≤ length line.old }
     ensures { Wrote line.old 0 (hex_of bytes.now) line.new }
 {
-    let mut i = 0;
-    while i < bytes.len() {
-        let b = bytes[i];
-        write_byte(line, 2 * i, high_digit(b));
-        write_byte(line, 2 * i + 1, low_digit(b));
-        i += 1;
+    for i in 0..bytes.len() {
+        write(line, 2 * i, digit_of(bytes[i] / 16));
+        write(line, 2 * i + 1, digit_of(bytes[i] % 16));
     }
 }

@@ -6,19 +6,21 @@ pub mod rule8;
 
 ghost use Rattle.std.specs.Prelude.{◌≡◌, ◌<◌};
 ghost use Rattle.hull_links.specs.Links.{padded, NumbersFit};
+ghost use Rattle.hull_links.specs.Numbers.{rule_number};
 ghost use Rattle.hull.specs.Numbers.{box_of, vertex_at, plane_at, support_at};
 ghost use Rattle.hull.specs.Rule8.{broken_rule};
 
 use crate::rule8::numbers_right;
-use hull_links::{HullSize, padded, planes_from};
+use hull_links::{Hull, Rule, padded, planes_from};
 use hull_shell::one_shell;
 use vector::shape::find_hull_support_vertex;
 use vector::{Aabb, Plane, Vec3};
 
-pub fn box_of(numbers: &[f32], size: HullSize) -> Aabb
-    requires { NumbersFit size numbers.now }
-    ensures { result ≡ box_of numbers.now }
+pub fn box_of(hull: &Hull) -> Aabb
+    requires { NumbersFit hull.now.size hull.now.numbers.now }
+    ensures { result ≡ box_of hull.now.numbers.now }
 {
+    let numbers = hull.numbers;
     Aabb {
         lower: Vec3 {
             x: numbers[0],
@@ -34,11 +36,12 @@ pub fn box_of(numbers: &[f32], size: HullSize) -> Aabb
 }
 
 // Vertex v; from V on, padding.
-pub fn vertex_at(numbers: &[f32], size: HullSize, v: usize) -> Vec3
-    requires { NumbersFit size numbers.now × (v < padded size) }
-    ensures { result ≡ vertex_at size numbers.now v }
+pub fn vertex_at(hull: &Hull, v: usize) -> Vec3
+    requires { NumbersFit hull.now.size hull.now.numbers.now × (v < padded hull.now.size) }
+    ensures { result ≡ vertex_at hull.now.size hull.now.numbers.now v }
 {
-    let p = padded(size);
+    let numbers = hull.numbers;
+    let p = padded(hull.size);
     Vec3 {
         x: numbers[6 + v],
         y: numbers[6 + p + v],
@@ -47,11 +50,12 @@ pub fn vertex_at(numbers: &[f32], size: HullSize, v: usize) -> Vec3
 }
 
 // The plane of face f.
-pub fn plane_at(numbers: &[f32], size: HullSize, f: usize) -> Plane
-    requires { NumbersFit size numbers.now × (f < size.faces) }
-    ensures { result ≡ plane_at size numbers.now f }
+pub fn plane_at(hull: &Hull, f: usize) -> Plane
+    requires { NumbersFit hull.now.size hull.now.numbers.now × (f < hull.now.size.faces) }
+    ensures { result ≡ plane_at hull.now.size hull.now.numbers.now f }
 {
-    let at = planes_from(size) + 4 * f;
+    let numbers = hull.numbers;
+    let at = planes_from(hull.size) + 4 * f;
     Plane {
         normal: Vec3 {
             x: numbers[at],
@@ -63,38 +67,39 @@ pub fn plane_at(numbers: &[f32], size: HullSize, f: usize) -> Plane
 }
 
 // The lowest-numbered vertex that lies farthest along d; padding is not looked at.
-pub fn support_vertex(numbers: &[f32], size: HullSize, d: Vec3) -> usize
-    requires { NumbersFit size numbers.now }
-    ensures { result ≡ support_at size numbers.now d }
+pub fn support_vertex(hull: &Hull, d: Vec3) -> usize
+    requires { NumbersFit hull.now.size hull.now.numbers.now }
+    ensures { result ≡ support_at hull.now.size hull.now.numbers.now d }
 {
-    let p = padded(size);
+    let numbers = hull.numbers;
+    let p = padded(hull.size);
     let y = 6 + p;
     let z = y + p;
     find_hull_support_vertex(
         &numbers[6..y],
         &numbers[y..z],
         &numbers[z..z + p],
-        size.vertices,
+        hull.size.vertices,
         d,
     )
 }
 
-// The first broken rule, 0 if none, whatever is lent: nothing is taken on the caller's word.
-pub fn first_broken_rule(numbers: &[f32], links: &[u8], size: HullSize) -> u8
-    ensures { result ≡ broken_rule size numbers.now links.now }
+// The first broken rule, if one is, whatever is lent: nothing is taken on the caller's word.
+pub fn first_broken_rule(hull: &Hull) -> Option<Rule>
+    ensures { rule_number result ≡ broken_rule hull.now.size hull.now.numbers.now hull.now.links.now }
 {
-    if !hull_rules::sizes_right(numbers, links, size) {
-        return 1;
+    if !hull_rules::sizes_right(hull) {
+        return Some(Rule::H1);
     }
-    let rule = hull_rules::broken_link_rule(links, size);
-    if rule != 0 {
+    let rule = hull_rules::broken_link_rule(hull);
+    if rule.is_some() {
         return rule;
     }
-    if !numbers_right(numbers, links, size) {
-        return 8;
+    if !numbers_right(hull) {
+        return Some(Rule::H8);
     }
-    if !one_shell(links, size) {
-        return 9;
+    if !one_shell(hull) {
+        return Some(Rule::H9);
     }
-    0
+    None
 }

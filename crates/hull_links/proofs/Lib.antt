@@ -5,3 +5,4 @@ pub mod Tours
 pub mod Facts
 pub mod Rounds
 pub mod Along
+pub mod Numbered

@@ -28,7 +28,8 @@ pub fn set_mark(marks: &mut [u64; 4], i: usize)
     marks[i / 64] |= 1u64 << (i % 64);
 }
 
-// i, which is below 128, is marked; its mark before, 1 or 0. Each word is named by a number of its own, so that a caller's loop keeps both in registers.
+// i, which is below 128, is marked; its mark before, 1 or 0: a number and no `bool`, so that a caller takes it from a count without a branch. Each word is
+// named by a number of its own, so that a caller's loop keeps both in registers.
 pub fn mark_anew(marks: &mut [u64; 4], i: usize) -> usize
     requires { i < 128 }
     ensures { (result ≡ mark_of marks.old i) × (marks.new ≡ with_mark marks.old i) }

@@ -1,3 +1,4 @@
 pub mod Linked
 pub mod Marks
 pub mod Named
+pub mod Ranges

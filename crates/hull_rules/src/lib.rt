@@ -7,15 +7,17 @@ pub mod tests;
 ghost use Rattle.std.specs.Prelude.{◌≡◌};
 ghost use Rattle.hull_links.specs.Links.{LinksFit};
 ghost use Rattle.hull_links.specs.Rules.{h1, broken_links};
+ghost use Rattle.hull_links.specs.Numbers.{rule_number};
 
 use crate::tests::broken_before_walks;
-use hull_links::{HullSize, planes_from};
+use hull_links::{Hull, Rule, planes_from};
 use hull_tours::{fans_toured, rings_toured};
 
 // H1: the unit is known, the sizes are within their limits, and the lists fit them.
-pub fn sizes_right(numbers: &[f32], links: &[u8], size: HullSize) -> bool
-    ensures { result ≡ h1 size numbers.now links.now }
+pub fn sizes_right(hull: &Hull) -> bool
+    ensures { result ≡ h1 hull.now.size hull.now.numbers.now hull.now.links.now }
 {
+    let size = hull.size;
     if !units::is_known(size.unit) {
         return false;
     }
@@ -40,30 +42,22 @@ pub fn sizes_right(numbers: &[f32], links: &[u8], size: HullSize) -> bool
     if 128 < size.faces {
         return false;
     }
-    if links.len() != size.vertices + 4 * size.half_edges + size.faces {
+    if hull.links.len() != size.vertices + 4 * size.half_edges + size.faces {
         return false;
     }
-    numbers.len() == planes_from(size) + 4 * size.faces
+    hull.numbers.len() == planes_from(size) + 4 * size.faces
 }
 
-// The first broken rule of H2 to H7, 0 if none.
-pub fn broken_link_rule(links: &[u8], size: HullSize) -> u8
-    requires { LinksFit size links.now }
-    ensures { result ≡ broken_links size links.now }
+// The first broken rule of H2 to H7.
+pub fn broken_link_rule(hull: &Hull) -> Option<Rule>
+    requires { LinksFit hull.now.size hull.now.links.now }
+    ensures { rule_number result ≡ broken_links hull.now.size hull.now.links.now }
 {
-    if !rings_toured(links, size) {
-        let rule = broken_before_walks(links, size);
-        if rule != 0 {
-            return rule;
-        }
-        return 6;
+    if !rings_toured(hull) {
+        return Some(broken_before_walks(hull).unwrap_or(Rule::H6));
     }
-    if fans_toured(links, size) {
-        return 0;
+    if fans_toured(hull) {
+        return None;
     }
-    let rule = broken_before_walks(links, size);
-    if rule != 0 {
-        return rule;
-    }
-    7
+    Some(broken_before_walks(hull).unwrap_or(Rule::H7))
 }

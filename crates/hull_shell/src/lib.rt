@@ -8,61 +8,69 @@ ghost use Rattle.hull_marks.specs.inner.Marks.{mark_of};
 ghost use Rattle.hull_shell.specs.Shell.{Reached, h9};
 ghost use Rattle.hull_shell.specs.inner.Flood.{Flooded, Spread};
 
-use hull_links::HullSize;
+use hull_links::Hull;
 use hull_marks::{mark_anew, no_marks};
 
-// Goes round the ring of `start` and enters each face across that was not entered; how many are entered then. Without a branch: what stands in the queue
-// behind the last that counts is written over.
-fn spread(
-    links: &[u8],
-    size: HullSize,
-    start: usize,
+// The faces that are entered, each once: the queue has, for each of the first `count`, the half-edge by which it was entered, and each has its mark.
+#[derive(Clone, Copy)]
+struct Entered {
+    queue: [u8; 129],
     count: usize,
-    queue: &mut [u8; 129],
-    seen: &mut [u64; 4],
-) -> usize
-    requires { Linked size links.now × (h6 size links.now ≡ true) × Flooded size links.now count queue.old (mark_of seen.old)
-        × (start < size.half_edges) × Reached size links.now start × (length seen.old ≡ 4) }
-    ensures { Spread size links.now start count queue.old (mark_of seen.old) result
-        queue.new (mark_of seen.new) × (length seen.new ≡ 4) }
-{
-    let mut n = count;
-    let mut e = start;
-    loop {
-        let across = hull_links::twin_of(links, size, e);
-        let f = hull_links::face_of(links, size, across);
-        queue[n] = across as u8;
-        n = n + 1 - mark_anew(seen, f);
-        if n == size.faces {
-            return n;
+    seen: [u64; 4],
+}
+
+impl Entered {
+    // Goes round the ring of `start` and enters each face across that was not entered. Without a branch: what stands in the queue behind the last that
+    // counts is written over.
+    fn spread(&mut self, hull: &Hull, start: usize)
+        requires { Linked hull.now.size hull.now.links.now × (h6 hull.now.size hull.now.links.now ≡ true)
+            × Flooded hull.now.size hull.now.links.now self.old.count self.old.queue (mark_of self.old.seen)
+            × (start < hull.now.size.half_edges) × Reached hull.now.size hull.now.links.now start × (length self.old.seen ≡ 4) }
+        ensures { Spread hull.now.size hull.now.links.now start self.old.count self.old.queue (mark_of self.old.seen)
+            self.new.count self.new.queue (mark_of self.new.seen) × (length self.new.seen ≡ 4) }
+    {
+        let all = hull.size.faces;
+        let mut e = start;
+        loop {
+            let across = hull.twin_of(e);
+            let f = hull.face_of(across);
+            self.queue[self.count] = across as u8;
+            self.count = self.count + 1 - mark_anew(&mut self.seen, f);
+            if self.count == all {
+                return;
+            }
+            let ahead = hull.next_of(e);
+            if ahead == start {
+                return;
+            }
+            e = ahead;
         }
-        let ahead = hull_links::next_of(links, size, e);
-        if ahead == start {
-            return n;
-        }
-        e = ahead;
     }
 }
 
 // H9.
-pub fn one_shell(links: &[u8], size: HullSize) -> bool
-    requires { Linked size links.now × (h6 size links.now ≡ true) }
-    ensures { result ≡ h9 size links.now }
+pub fn one_shell(hull: &Hull) -> bool
+    requires { Linked hull.now.size hull.now.links.now × (h6 hull.now.size hull.now.links.now ≡ true) }
+    ensures { result ≡ h9 hull.now.size hull.now.links.now }
 {
-    let faces = size.faces;
-    let sides = size.vertices + faces;
-    let edges = size.half_edges / 2;
+    let faces = hull.size.faces;
+    let sides = hull.size.vertices + faces;
+    let edges = hull.size.half_edges / 2;
     if sides != edges + 2 {
         return false;
     }
-    let mut queue = [0u8; 129];
-    let mut seen = no_marks();
-    let mut n = 1 - mark_anew(&mut seen, hull_links::face_of(links, size, 0));
+    let mut flood = Entered {
+        queue: [0u8; 129],
+        count: 0,
+        seen: no_marks(),
+    };
+    flood.count = 1 - mark_anew(&mut flood.seen, hull.face_of(0));
     let mut done = 0;
-    while done < n {
-        let start = hull_links::wide(queue[done]);
-        n = spread(links, size, start, n, &mut queue, &mut seen);
-        if n == faces {
+    // The queue grows while it is gone through, so this is no `for`.
+    while done < flood.count {
+        let start = usize::from(flood.queue[done]);
+        flood.spread(hull, start);
+        if flood.count == faces {
             return true;
         }
         done += 1;

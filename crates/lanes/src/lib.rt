@@ -42,12 +42,11 @@ pub fn embed_index_w(value: FloatW, base: u32) -> FloatW
 // one instruction for four lanes.
 pub fn least(a: f32, b: f32) -> f32
     requires { T (finite a) × T (finite b) }
-    ensures { result ≡ least_of a b }
+    ensures least { result ≡ least_of a b }
+    ensures lesser { result ≡ lesser_of a b }
+    ensures bounded { T (finite result) }
 {
-    if b < a {
-        return b;
-    }
-    a
+    if b < a { b } else { a }
 }
 
 // The least of each lane.
@@ -63,22 +62,11 @@ pub fn min_w(a: FloatW, b: FloatW) -> FloatW
     }
 }
 
-// The next lane where it is strictly below what is held, else what is held.
-fn lesser(held: f32, next: f32) -> f32
-    ensures { result ≡ lesser_of held next }
-{
-    if next < held {
-        return next;
-    }
-    held
-}
-
 // The number that the least of the four lanes carries.
 pub fn min_index_w(a: FloatW) -> u32
     requires { FiniteW a }
     ensures { result ≡ min_index_of a }
 {
-    let m = lesser(lesser(lesser(a.x, a.y), a.z), a.w);
-    let bits = f32::to_bits(m);
-    bits % 128
+    let m = least(least(least(a.x, a.y), a.z), a.w);
+    f32::to_bits(m) % 128
 }

@@ -29,6 +29,11 @@ then {s = s} {m1} {m2} {at} {k} {a} {b} e f n =
 pub wrote_same : {A : Type 0} {s m vs ws : List A} {at : ℕ} → Wrote s at vs m → vs ≡ ws → Wrote s at ws m
 wrote_same {s = s} {at = at} w e = record { by = w.by ∙ ap (sets s at) e }
 
+-- four values, one behind the other
+pub four : {A : Type 0} {s m1 m2 m3 m4 : List A} {at : ℕ} {a b c d : A} → Wrote s at (a ∷ []) m1 → Wrote m1 (at + 1) (b ∷ []) m2
+    → Wrote m2 (at + 2) (c ∷ []) m3 → Wrote m3 (at + 3) (d ∷ []) m4 → Wrote s at (a ∷ b ∷ c ∷ d ∷ []) m4
+four w x y z = then (then (then w x refl) y refl) z refl
+
 -- the list stays as long as it was
 pub wrote_length : {A : Type 0} {s m vs : List A} {at : ℕ} → Wrote s at vs m → length m ≡ length s
 wrote_length {s = s} {vs = vs} {at = at} w = ap length w.by ∙ length-sets s at vs

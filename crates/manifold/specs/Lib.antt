@@ -1,3 +1,4 @@
 pub mod Records
 pub mod Pairs
 pub mod Polygons
+pub mod Kinds

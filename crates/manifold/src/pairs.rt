@@ -1,6 +1,6 @@
 // Tags of points.
 ghost use Rattle.std.specs.Prelude.{◌≡◌};
-ghost use Rattle.manifold.specs.Pairs.{owner_of, pair_of, refused_flip, flip_of};
+ghost use Rattle.manifold.specs.Pairs.{owner_of, pair_of, flipped_of, flip_of};
 
 use crate::FeaturePair;
 
@@ -11,21 +11,15 @@ pub enum FeatureOwner {
     ShapeB,
 }
 
-// A pair turned round; or the refusal's number and four zeros.
-#[repr(C)]
-#[derive(Clone, Copy)]
-pub struct Flipped {
-    pub status: u8,
-    pub pair: FeaturePair,
-}
-
-// The owner's number in a tag.
-fn owner_number(owner: FeatureOwner) -> u8
-    ensures { result ≡ owner_of owner }
-{
-    match owner {
-        FeatureOwner::ShapeA => 0,
-        FeatureOwner::ShapeB => 1,
+impl From<FeatureOwner> for u8 {
+    // The owner's number in a tag.
+    fn from(owner: FeatureOwner) -> u8
+        ensures { result ≡ owner_of owner }
+    {
+        match owner {
+            FeatureOwner::ShapeA => 0,
+            FeatureOwner::ShapeB => 1,
+        }
     }
 }
 
@@ -38,44 +32,24 @@ pub fn make_feature_pair(
     ensures { result ≡ pair_of owner1 index1 owner2 index2 }
 {
     FeaturePair {
-        owner1: owner_number(owner1),
+        owner1: u8::from(owner1),
         index1,
-        owner2: owner_number(owner2),
+        owner2: u8::from(owner2),
         index2,
     }
 }
 
-// The pair as the other shape sees it, so that the choice of the reference face does not change a tag. An owner above 1 is refusal 8.
-pub fn flip_pair(pair: FeaturePair) -> Flipped
-    ensures { result ≡ flip_of pair }
+// The pair as the other shape sees it, so that the choice of the reference face does not change a tag. Nothing where an owner is above 1: refusal 8.
+pub fn flip_pair(pair: FeaturePair) -> Option<FeaturePair>
+    ensures { flipped_of result ≡ flip_of pair }
 {
-    if 1 < pair.owner1 {
-        return refused_flip();
+    if 1 < pair.owner1 || 1 < pair.owner2 {
+        return None;
     }
-    if 1 < pair.owner2 {
-        return refused_flip();
-    }
-    Flipped {
-        status: 0,
-        pair: FeaturePair {
-            owner1: 1 - pair.owner2,
-            index1: pair.index2,
-            owner2: 1 - pair.owner1,
-            index2: pair.index1,
-        },
-    }
-}
-
-fn refused_flip() -> Flipped
-    ensures { result ≡ refused_flip }
-{
-    Flipped {
-        status: 8,
-        pair: FeaturePair {
-            owner1: 0,
-            index1: 0,
-            owner2: 0,
-            index2: 0,
-        },
-    }
+    Some(FeaturePair {
+        owner1: 1 - pair.owner2,
+        index1: pair.index2,
+        owner2: 1 - pair.owner1,
+        index2: pair.index1,
+    })
 }

@@ -58,11 +58,5 @@ pub fn empty_cache() -> SatCache
 pub fn hit_set(hit: u8, cache: SatCache) -> SatCache
     ensures { result ≡ hit_set hit cache }
 {
-    SatCache {
-        separation: cache.separation,
-        kind: cache.kind,
-        index_a: cache.index_a,
-        index_b: cache.index_b,
-        hit,
-    }
+    SatCache { hit, ..cache }
 }

@@ -9,6 +9,7 @@ use lib.Dec.{leb}
 use lib.ListN.{length, get_or, take, drop}
 use lib.Ieee.{Float}
 use Rattle.hull_links.proofs.Tests.{and_left, and_right, and_false_left, and_last}
+use Rattle.hull_links.specs.declared.HullSize.{HullSize}
 use Rattle.hull.specs.Rule8.{broken_rule}
 use Rattle.pools.specs.declared.Place.{Place}
 use Rattle.pools.specs.Pools.{numbers_end, links_end, inside_of, numbers_at, links_at, rule_at, place_of}
@@ -58,11 +59,9 @@ pub zero_inside : (n : List Float) (l : List ℕ) (p : Place) → rule_at n l p 
 unfolding rule_at
 zero_inside n l p h = inside_of_zero _ (broken_rule p.size (numbers_at n p) (links_at l p)) h
 
-pub rule_judged : (n : List Float) (l : List ℕ) (p : Place) {e f r : ℕ} → inside_of p (length n) (length l) ≡ true → e ≡ numbers_end p → f ≡ links_end p
-    → r ≡ broken_rule p.size (take (e - p.numbers) (drop p.numbers n)) (take (f - p.links) (drop p.links l)) → r ≡ rule_at n l p
-rule_judged n l p {e} {f} {r} h a b g =
-    g ∙ (ap (λ x. broken_rule p.size x (take (f - p.links) (drop p.links l))) (numbers_part n p a)
-    ∙ (ap (broken_rule p.size (numbers_at n p)) (links_part l p b) ∙ sym (rule_inside n l p h)))
+pub rule_judged : (n : List Float) (l : List ℕ) (p : Place) {s : HullSize} {m : List Float} {k : List ℕ} {r : ℕ}
+    → inside_of p (length n) (length l) ≡ true → s ≡ p.size → m ≡ numbers_at n p → k ≡ links_at l p → r ≡ broken_rule s m k → r ≡ rule_at n l p
+rule_judged n l p h es em ek g = g ∙ (rw (es, em, ek) (sym (rule_inside n l p h)))
 
 -- the words of a hull
 pub words_read : (hs : List ℕ) (h : ℕ) (p : Place) → p.numbers ≡ get_or hs (6 * h) 0 → p.links ≡ get_or hs (6 * h + 1) 0

@@ -1,5 +1,5 @@
 -- One pair: what the list of rules says is what the judge says, and the answer that follows. Assumes nothing.
-use Prim.Native.Nat.{ℕ, ◌-◌, ◌≤◌, ◌<◌}
+use Prim.Native.Nat.{ℕ, ◌≤◌, ◌<◌}
 use mathlib.Core.Bool.{Bool, true, false, cond}
 use mathlib.Core.List.{List}
 use mathlib.Core.Path.{◌≡◌, refl, sym, ap, ◌∙◌}
@@ -7,18 +7,19 @@ use native.Mathlib.Omega.{arith}
 use borrow.Author.Tests.{ltb-true, ltb-false, lt-ltb, le-ltb, eq-eqb, ne_eqb}
 use lib.Dec.{eqb, ltb}
 use lib.IntN.{pos}
-use lib.ListN.{length, get_or, take, drop}
+use lib.ListN.{length, get_or}
 use lib.Ieee.{Float}
 use Rattle.vector.specs.declared.Transform.{Transform}
 use Rattle.manifold.specs.declared.SatCache.{SatCache}
 use Rattle.manifold.specs.declared.Answer.{Answer}
+use Rattle.hull_links.specs.declared.HullSize.{HullSize}
 use Rattle.hull.specs.Rule8.{broken_rule}
 use Rattle.collide_outcome.specs.Answers.{refused_of}
 use Rattle.collide.specs.Call.{collide_of}
 use Rattle.collide.proofs.Few.{few_call, few_refused}
 use Rattle.pools.specs.declared.Place.{Place}
-use Rattle.pools.specs.Pools.{hulls_in, place_of, numbers_end, links_end, inside_of, numbers_at, links_at, rule_at, rule_of}
-use Rattle.pools.proofs.Laws.{Lies, lies, zero_inside, rule_inside, numbers_part, links_part}
+use Rattle.pools.specs.Pools.{hulls_in, place_of, inside_of, numbers_at, links_at, rule_at, rule_of}
+use Rattle.pools.proofs.Laws.{zero_inside, rule_inside}
 use Rattle.pools_pairs.specs.Pairs.{number_rule, call_at, pair_answer}
 use Rattle.pools_pairs.specs.inner.Judged.{Judged, hull_rule}
 
@@ -44,7 +45,7 @@ module _ (n : List Float) (l hs : List ℕ) where
     pub zero_rule : number_rule n l hs h ≡ 0
     pub there : h < hulls_in hs
     pub at : p ≡ place_of hs h
-    pub within : Lies p (length n) (length l)
+    pub within : inside_of p (length n) (length l) ≡ true
     pub right : broken_rule p.size (numbers_at n p) (links_at l p) ≡ 0
 
   pub below : (h : ℕ) → number_rule n l hs h ≡ 0 → h < hulls_in hs
@@ -61,12 +62,12 @@ module _ (n : List Float) (l hs : List ℕ) where
   ready h p z e =
       let r : rule_at n l p ≡ 0 = ap (rule_at n l) e ∙ rule_zero h z in
       let i : inside_of p (length n) (length l) ≡ true = zero_inside n l p r in
-      record { zero_rule = z; there = below h z; at = e; within = lies p (length n) (length l) i; right = sym (rule_inside n l p i) ∙ r }
+      record { zero_rule = z; there = below h z; at = e; within = i; right = sym (rule_inside n l p i) ∙ r }
 
-  -- the parts of the pools that are handed to the call
-  pub right_parts : {h e f : ℕ} {p : Place} → Ready h p → e ≡ numbers_end p → f ≡ links_end p
-      → broken_rule p.size (take (e - p.numbers) (drop p.numbers n)) (take (f - p.links) (drop p.links l)) ≡ 0
-  right_parts {h} {e} {f} {p} g a b = rw (numbers_part n p a, links_part l p b) g.right
+  -- the hull that is lent its own lists breaks no rule
+  pub breaks_none : {h : ℕ} {p : Place} {s : HullSize} {m : List Float} {k : List ℕ} → Ready h p → s ≡ p.size → m ≡ numbers_at n p → k ≡ links_at l p
+      → broken_rule s m k ≡ 0
+  breaks_none g es em ek = rw (es, em, ek) g.right
 
   pub refuses_1 : (a b : ℕ) (x : Transform) (c : SatCache) → (number_rule n l hs a ≡ 0 → ⊥) → refused_of 1 c ≡ pair_answer n l hs a b x c
   unfolding pair_answer
@@ -82,14 +83,12 @@ module _ (n : List Float) (l hs : List ℕ) where
   unfolding pair_answer
   calls a b x c g h = simp (eq-eqb _ _ g, eq-eqb _ _ h)
 
-  pub called : {a b e f i j : ℕ} {p q : Place} {r : Answer} (x : Transform) (c : SatCache) → Ready a p → Ready b q
-      → e ≡ numbers_end p → f ≡ links_end p → i ≡ numbers_end q → j ≡ links_end q
-      → r ≡ collide_of p.size (take (e - p.numbers) (drop p.numbers n)) (take (f - p.links) (drop p.links l))
-      q.size (take (i - q.numbers) (drop q.numbers n)) (take (j - q.links) (drop q.links l)) x (pos 4) c
-      → r ≡ pair_answer n l hs a b x c
+  pub called : {a b : ℕ} {p q : Place} {s t : HullSize} {m o : List Float} {k j : List ℕ} {r : Answer} (x : Transform) (c : SatCache)
+      → Ready a p → Ready b q → s ≡ p.size → m ≡ numbers_at n p → k ≡ links_at l p → t ≡ q.size → o ≡ numbers_at n q → j ≡ links_at l q
+      → r ≡ collide_of s m k t o j x (pos 4) c → r ≡ pair_answer n l hs a b x c
   unfolding call_at
-  called {a} {b} {e} {f} {i} {j} {p} {q} {r} x c g h ee ff ii jj w =
-      w ∙ (rw (numbers_part n p ee, links_part l p ff, numbers_part n q ii, links_part l q jj)
+  called {a} {b} {p} {q} x c g h es em ek et eo ej w =
+      w ∙ (rw (es, em, ek, et, eo, ej)
       (ap (λ y. call_at n l hs y q x c) g.at ∙ (ap (λ y. call_at n l hs (place_of hs a) y x c) h.at ∙ calls a b x c g.zero_rule h.zero_rule)))
 
   -- no answer has more than four points

@@ -9,7 +9,7 @@ ghost use Rattle.pools_rows.specs.Rows.{status_bytes, name_bytes};
 ghost use Rattle.pools_rows.specs.inner.Entered.{Entered};
 
 use frame_encode::{put_pair, put_places};
-use lists::{write_byte, write_float, write_word};
+use lists::write;
 use manifold::{Answer, Contact, Outcome, Point, SatCache};
 use vector::{Quat, Transform, Vec3};
 
@@ -40,12 +40,13 @@ pub fn transform_at(transforms: &[f32], k: usize) -> Transform
 fn cache_from(separation: u32, w: u32) -> SatCache
     ensures { result ≡ cache_from separation w }
 {
+    let [kind, index_a, index_b, hit] = w.to_le_bytes();
     SatCache {
         separation,
-        kind: (w % 256) as u8,
-        index_a: (w / 256 % 256) as u8,
-        index_b: (w / 65536 % 256) as u8,
-        hit: (w / 16777216) as u8,
+        kind,
+        index_a,
+        index_b,
+        hit,
     }
 }
 
@@ -59,37 +60,33 @@ pub fn cache_at(caches: &[u32], k: usize) -> SatCache
 fn cache_word(c: SatCache) -> u32
     ensures { result ≡ cache_word c }
 {
-    (c.hit as u32) * 16777216
-        + (c.index_b as u32) * 65536
-        + (c.index_a as u32) * 256
-        + (c.kind as u32)
+    u32::from_le_bytes([c.kind, c.index_a, c.index_b, c.hit])
 }
 
 fn put_cache(caches: &mut [u32], at: usize, c: SatCache)
     requires { at + 2 ≤ length caches.old }
     ensures { Wrote caches.old at (cache_words c) caches.new }
 {
-    write_word(caches, at, c.separation);
-    let w = cache_word(c);
-    write_word(caches, at + 1, w);
+    write(caches, at, c.separation);
+    write(caches, at + 1, cache_word(c));
 }
 
+// `frame_encode` has functions of these names that put bytes: a float is one place here and four there, so one function for both would be no plainer.
 fn put_vec(floats: &mut [f32], at: usize, v: Vec3)
     requires { at + 3 ≤ length floats.old }
     ensures { Wrote floats.old at (vec_floats v) floats.new }
 {
-    write_float(floats, at, v.x);
-    write_float(floats, at + 1, v.y);
-    write_float(floats, at + 2, v.z);
+    write(floats, at, v.x);
+    write(floats, at + 1, v.y);
+    write(floats, at + 2, v.z);
 }
 
 fn put_point(floats: &mut [f32], at: usize, p: Point)
     requires { at + 4 ≤ length floats.old }
     ensures { Wrote floats.old at (point_floats p) floats.new }
 {
-    let position = p.position;
-    put_vec(floats, at, position);
-    write_float(floats, at + 3, p.separation);
+    put_vec(floats, at, p.position);
+    write(floats, at + 3, p.separation);
 }
 
 // The normal and four points, unused ones too.
@@ -97,16 +94,11 @@ fn put_contact(floats: &mut [f32], at: usize, c: Contact)
     requires { at + 19 ≤ length floats.old }
     ensures { Wrote floats.old at (contact_floats c) floats.new }
 {
-    let normal = c.normal;
-    put_vec(floats, at, normal);
-    let points = c.points;
-    let first = points[0];
+    let [first, second, third, fourth] = c.points;
+    put_vec(floats, at, c.normal);
     put_point(floats, at + 3, first);
-    let second = points[1];
     put_point(floats, at + 7, second);
-    let third = points[2];
     put_point(floats, at + 11, third);
-    let fourth = points[3];
     put_point(floats, at + 15, fourth);
 }
 
@@ -115,9 +107,9 @@ pub fn put_status(bytes: &mut [u8], at: usize, o: Outcome)
     requires { at + 3 ≤ length bytes.old }
     ensures { Wrote bytes.old at (status_bytes o) bytes.new }
 {
-    write_byte(bytes, at, o.status);
-    write_byte(bytes, at + 1, o.contact.count);
-    write_byte(bytes, at + 2, o.retired);
+    write(bytes, at, o.status);
+    write(bytes, at + 1, o.contact.count);
+    write(bytes, at + 2, o.retired);
 }
 
 // What the four points are called: their tags, then their candidates' places.
@@ -125,19 +117,11 @@ pub fn put_names(bytes: &mut [u8], at: usize, c: Contact)
     requires { at + 20 ≤ length bytes.old }
     ensures { Wrote bytes.old at (name_bytes c) bytes.new }
 {
-    let points = c.points;
-    let first = points[0];
-    let tag0 = first.pair;
-    put_pair(bytes, at, tag0);
-    let second = points[1];
-    let tag1 = second.pair;
-    put_pair(bytes, at + 4, tag1);
-    let third = points[2];
-    let tag2 = third.pair;
-    put_pair(bytes, at + 8, tag2);
-    let fourth = points[3];
-    let tag3 = fourth.pair;
-    put_pair(bytes, at + 12, tag3);
+    let [first, second, third, fourth] = c.points;
+    put_pair(bytes, at, first.pair);
+    put_pair(bytes, at + 4, second.pair);
+    put_pair(bytes, at + 8, third.pair);
+    put_pair(bytes, at + 12, fourth.pair);
     put_places(bytes, at + 16, c);
 }
 
@@ -146,9 +130,7 @@ pub fn put_answer(caches: &mut [u32], floats: &mut [f32], k: usize, a: Answer) -
     requires { (k < length caches.old / 2) × (k < length floats.old / 19) }
     ensures { Entered k a caches.old floats.old result caches.new floats.new }
 {
-    let cache = a.cache;
-    put_cache(caches, 2 * k, cache);
-    let contact = a.outcome.contact;
-    put_contact(floats, 19 * k, contact);
-    a.outcome.contact.count as usize
+    put_cache(caches, 2 * k, a.cache);
+    put_contact(floats, 19 * k, a.outcome.contact);
+    usize::from(a.outcome.contact.count)
 }

@@ -5,8 +5,8 @@ ghost use Rattle.hull.specs.Accepted.{Accepted};
 ghost use Rattle.axis.specs.Search.{search_of};
 ghost use Rattle.probes.specs.Axes.{zero_axis, paired_of, searched_of};
 
-use axis::{Axis, EdgeAxis, Search};
-use hull_links::HullSize;
+use axis::{Axis, Search};
+use hull_links::{Hull, HullSize};
 use vector::{Transform, Vec3};
 
 // Apart, with its kind, separation and numbers, or both faces and, where `pair` says so, the edge pair. What a case does not have is zero.
@@ -40,11 +40,11 @@ fn zero_axis() -> Axis
 }
 
 #[tactic(auto, unfolding(crate::specs::Axes::paired_of))]
-fn found_record(face_a: Axis, face_b: Axis, edge: EdgeAxis) -> Searched
+fn found_record(face_a: Axis, face_b: Axis, edge: Option<Axis>) -> Searched
     ensures { result ≡ paired_of face_a face_b edge }
 {
     match edge {
-        EdgeAxis::Pair(pair) => Searched {
+        Some(pair) => Searched {
             apart: false,
             kind: 0,
             pair: true,
@@ -55,20 +55,17 @@ fn found_record(face_a: Axis, face_b: Axis, edge: EdgeAxis) -> Searched
             face_b,
             edge: pair,
         },
-        EdgeAxis::None => {
-            let zero = zero_axis();
-            Searched {
-                apart: false,
-                kind: 0,
-                pair: false,
-                separation: 0.0,
-                index_a: 0,
-                index_b: 0,
-                face_a,
-                face_b,
-                edge: zero,
-            }
-        }
+        None => Searched {
+            apart: false,
+            kind: 0,
+            pair: false,
+            separation: 0.0,
+            index_a: 0,
+            index_b: 0,
+            face_a,
+            face_b,
+            edge: zero_axis(),
+        },
     }
 }
 
@@ -81,7 +78,7 @@ fn as_record(search: Search) -> Searched
             let zero = zero_axis();
             Searched {
                 apart: true,
-                kind: apart.kind,
+                kind: u8::from(apart.kind),
                 pair: false,
                 separation: apart.separation,
                 index_a: apart.index_a,
@@ -91,12 +88,7 @@ fn as_record(search: Search) -> Searched
                 edge: zero,
             }
         }
-        Search::Found(axes) => {
-            let face_a = axes.face_a;
-            let face_b = axes.face_b;
-            let edge = axes.edge;
-            found_record(face_a, face_b, edge)
-        }
+        Search::Found(axes) => found_record(axes.face_a, axes.face_b, axes.edge),
     }
 }
 
@@ -114,7 +106,15 @@ pub extern "C" fn probe_compute_separating_axis(
     ensures { result ≡ searched_of (search_of size_a numbers_a.now links_a.now size_b numbers_b.now
         links_b.now transform) }
 {
-    as_record(axis::compute_separating_axis(
-        numbers_a, links_a, size_a, numbers_b, links_b, size_b, transform,
-    ))
+    let a = Hull {
+        numbers: numbers_a,
+        links: links_a,
+        size: size_a,
+    };
+    let b = Hull {
+        numbers: numbers_b,
+        links: links_b,
+        size: size_b,
+    };
+    as_record(axis::compute_separating_axis(&a, &b, transform))
 }

@@ -12,10 +12,21 @@ ghost use Rattle.reduce.specs.Reduce.{first_picks, points_of};
 ghost use Rattle.clip_incident.specs.Incident.{incident_face_of};
 ghost use Rattle.clip.specs.Candidates.{built_of, candidates_of};
 
-use clip_corners::Kept;
-use hull_links::HullSize;
+use clip_corners::{Corners, Kept};
+use hull_links::{Hull, HullSize};
 use manifold::{ClipVertex, Contact};
 use vector::{Plane, Transform, Vec3};
+
+// The corners that a caller's two lists hold.
+fn corners_of(places: &[f32], tags: &[u8]) -> Corners
+    requires { Roomy places.now tags.now }
+    ensures { (result.numbers ≡ places.now) × (result.tags ≡ tags.now) }
+{
+    let mut corners = Corners::new();
+    corners.numbers.copy_from_slice(places);
+    corners.tags.copy_from_slice(tags);
+    corners
+}
 
 #[unsafe(no_mangle)]
 pub extern "C" fn probe_clip_polygon(
@@ -32,7 +43,11 @@ pub extern "C" fn probe_clip_polygon(
     ensures { Laid numbers.old tags.old q 0
         (cut_of plane edge reference (corners_in numbers.old tags.old p n)) numbers.new tags.new result }
 {
-    clip_cut::clip_polygon(numbers, tags, p, n, plane, edge, reference, q)
+    let mut corners = corners_of(numbers, tags);
+    let count = clip_cut::clip_polygon(&mut corners, p, n, plane, edge, reference, q);
+    numbers.copy_from_slice(&corners.numbers);
+    tags.copy_from_slice(&corners.tags);
+    count
 }
 
 #[unsafe(no_mangle)]
@@ -40,7 +55,7 @@ pub extern "C" fn probe_image_at(places: &[f32], tags: &[u8], p: usize, normal: 
     requires { Roomy places.now tags.now × (p < 128) }
     ensures { result ≡ image_of normal (corner_in places.now tags.now p) }
 {
-    reduce_scores::images::image_at(places, tags, p, normal)
+    reduce_scores::images::image_at(&corners_of(places, tags), p, normal)
 }
 
 #[unsafe(no_mangle)]
@@ -48,7 +63,7 @@ pub extern "C" fn probe_least_separation(places: &[f32], tags: &[u8], from: usiz
     requires { Roomy places.now tags.now × (from ≤ 64) × (n ≤ 64) }
     ensures { result ≡ least_separation_of (corners_in places.now tags.now from n) }
 {
-    reduce_scores::images::least_separation(places, tags, from, n)
+    reduce_scores::images::least_separation(&corners_of(places, tags), from, n)
 }
 
 #[unsafe(no_mangle)]
@@ -71,7 +86,7 @@ pub extern "C" fn probe_reduce_manifold_points(
     ensures { let images = images_in normal places.now tags.now from n in
         result ≡ contact_of normal (points_of (first_picks (speculative unit) (arbitrary_perp_of normal) normal images) images) }
 {
-    reduce::reduce_manifold_points(places, tags, from, n, normal, unit)
+    reduce::reduce_manifold_points(&corners_of(places, tags), from, n, normal, unit)
 }
 
 // So many reductions of the same candidates, and how many points they leave together.
@@ -89,12 +104,11 @@ pub extern "C" fn probe_reduce_rounds(
     ensures { let images = images_in normal places.now tags.now from n in
         result ≡ rounds * (contact_of normal (points_of (first_picks (speculative unit) (arbitrary_perp_of normal) normal images) images)).count }
 {
+    let corners = corners_of(places, tags);
     let mut total = 0;
-    let mut i = 0;
-    while i < rounds {
-        let contact = reduce::reduce_manifold_points(places, tags, from, n, normal, unit);
-        total += contact.count as usize;
-        i += 1;
+    for _ in 0..rounds {
+        let contact = reduce::reduce_manifold_points(&corners, from, n, normal, unit);
+        total += usize::from(contact.count);
     }
     total
 }
@@ -110,7 +124,12 @@ pub extern "C" fn probe_find_incident_face(
     requires { Accepted size numbers.now links.now × (vertex < size.vertices) }
     ensures { result ≡ incident_face_of size numbers.now links.now normal vertex }
 {
-    clip_incident::find_incident_face(numbers, links, size, normal, vertex)
+    let hull = Hull {
+        numbers,
+        links,
+        size,
+    };
+    clip_incident::find_incident_face(&hull, normal, vertex)
 }
 
 #[unsafe(no_mangle)]
@@ -128,9 +147,16 @@ pub extern "C" fn probe_build_polygon(
     ensures { Laid places.old tags.old 0 0 (built_of size numbers.now links.now transform
         reference face) places.new tags.new result }
 {
-    clip::build_polygon(
-        numbers, links, size, transform, face, reference, places, tags,
-    )
+    let hull = Hull {
+        numbers,
+        links,
+        size,
+    };
+    let mut corners = corners_of(places, tags);
+    let count = clip::build_polygon(&hull, transform, face, reference, &mut corners);
+    places.copy_from_slice(&corners.numbers);
+    tags.copy_from_slice(&corners.tags);
+    count
 }
 
 #[unsafe(no_mangle)]
@@ -152,8 +178,19 @@ pub extern "C" fn probe_candidates(
     ensures { Standing places.new tags.new (candidates_of size_a numbers_a.now links_a.now
         size_b numbers_b.now links_b.now transform face vertex) result }
 {
-    clip::candidates(
-        numbers_a, links_a, size_a, numbers_b, links_b, size_b, transform, face, vertex, places,
-        tags,
-    )
+    let a = Hull {
+        numbers: numbers_a,
+        links: links_a,
+        size: size_a,
+    };
+    let b = Hull {
+        numbers: numbers_b,
+        links: links_b,
+        size: size_b,
+    };
+    let mut corners = corners_of(places, tags);
+    let kept = clip::candidates(&a, &b, transform, face, vertex, &mut corners);
+    places.copy_from_slice(&corners.numbers);
+    tags.copy_from_slice(&corners.tags);
+    kept
 }

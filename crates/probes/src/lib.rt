@@ -20,7 +20,7 @@ ghost use Rattle.probes.specs.Probes.{vectors_of, rotations_of, shapes_of, lines
 
 use lanes::FloatW;
 use manifold::FeaturePair;
-use manifold::pairs::FeatureOwner;
+use manifold::pairs::{FeatureOwner, flip_pair};
 use vector::{Aabb, Plane, Transform, Vec3};
 
 #[repr(C)]
@@ -87,6 +87,14 @@ pub struct Limits {
     pub edge: f32,
 }
 
+// A pair turned round; or the refusal's number and four zeros.
+#[repr(C)]
+#[derive(Clone, Copy)]
+pub struct Flipped {
+    pub status: u8,
+    pub pair: FeaturePair,
+}
+
 // The root of the float with these bits, as bits.
 #[unsafe(no_mangle)]
 pub extern "C" fn probe_root_bits(bits: u32) -> u32
@@ -148,14 +156,12 @@ pub extern "C" fn probe_rotations(t: Transform, v: Vec3) -> Rotations
 pub extern "C" fn probe_shapes(plane: Plane, p: Vec3, b: Aabb) -> Shapes
     ensures { result ≡ shapes_of plane p b }
 {
-    let lower = b.lower;
-    let upper = b.upper;
     Shapes {
         separation: vector::shape::plane_separation(plane, p),
         through: vector::shape::make_plane_from_normal_and_point(plane.normal, p),
         center: vector::shape::aabb_center(b),
         extents: vector::shape::aabb_extents(b),
-        farther: vector::shape::get_point_support([lower, upper], p),
+        farther: vector::shape::get_point_support([b.lower, b.upper], p),
     }
 }
 
@@ -178,18 +184,14 @@ pub extern "C" fn probe_support_vertex(
 pub extern "C" fn probe_lines(p1: Vec3, d1: Vec3, p2: Vec3, d2: Vec3) -> Lines
     ensures { result ≡ lines_of p1 d1 p2 d2 }
 {
-    let perp = vector::awaited::arbitrary_perp(p1);
     let line = vector::awaited::line_distance(p1, d1, p2, d2);
-    let within = vector::awaited::is_within_segments(line);
-    let point1 = line.point1;
-    let point2 = line.point2;
     Lines {
-        perp,
-        point1,
-        point2,
+        perp: vector::awaited::arbitrary_perp(p1),
+        point1: line.point1,
+        point2: line.point2,
         s1: line.s1,
         s2: line.s2,
-        within,
+        within: vector::awaited::is_within_segments(line),
     }
 }
 
@@ -233,10 +235,24 @@ pub extern "C" fn probe_edge_pair(index_a: u8, index_b: u8) -> FeaturePair
 }
 
 #[unsafe(no_mangle)]
-pub extern "C" fn probe_flip_pair(pair: FeaturePair) -> manifold::pairs::Flipped
-    ensures { result ≡ flip_of pair }
+pub extern "C" fn probe_flip_pair(pair: FeaturePair) -> Flipped
+    ensures { let flipped = flip_of pair in (result.status ≡ flipped.status) × (result.pair ≡ flipped.pair) }
 {
-    manifold::pairs::flip_pair(pair)
+    match flip_pair(pair) {
+        Some(turned) => Flipped {
+            status: 0,
+            pair: turned,
+        },
+        None => Flipped {
+            status: 8,
+            pair: FeaturePair {
+                owner1: 0,
+                index1: 0,
+                owner2: 0,
+                index2: 0,
+            },
+        },
+    }
 }
 
 // Every limit that goes by the unit.

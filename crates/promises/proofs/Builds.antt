@@ -14,13 +14,15 @@ use Rattle.vector.specs.Awaited.{is_within_segments_of}
 use Rattle.rotation.specs.Rotation.{invert_of}
 use Rattle.manifold.specs.declared.Contact.{Contact}
 use Rattle.manifold.specs.declared.ClipVertex.{ClipVertex}
+use Rattle.manifold.specs.declared.kinds.AxisKind.{AxisKind}
+use Rattle.manifold.specs.Kinds.{kind_number}
 use Rattle.units.specs.Limits.{speculative}
 use Rattle.hull_links.specs.declared.HullSize.{HullSize}
 use Rattle.hull.specs.Numbers.{plane_at}
 use Rattle.axis_best.specs.declared.Lead.{Lead}
 use Rattle.axis.specs.declared.Axis.{Axis}
 use Rattle.axis.specs.declared.AxisApart.{AxisApart}
-use Rattle.axis.specs.declared.EdgeAxis.{EdgeAxis}
+use Rattle.std.specs.Prelude.{Option, Some, None}
 use Rattle.axis.specs.declared.Found.{Found}
 use Rattle.axis.specs.declared.Search.{Search}
 use Rattle.axis.specs.Meaning.{cache_of}
@@ -30,8 +32,7 @@ use Rattle.clip.specs.Candidates.{candidates_of}
 use Rattle.reduce_points.specs.Points.{point_of, contact_of}
 use Rattle.contacts.specs.Faces.{contact_on_a, contact_on_b, on_face, face_a_of, face_b_of}
 use Rattle.contacts.specs.EdgePairs.{edge_point, nearest_of, along_of, edge_contact_of}
-use Rattle.collide_outcome.specs.declared.Built.{Built}
-use Rattle.collide_outcome.specs.Builds.{touched_of, missed, refused_at}
+use Rattle.collide_outcome.specs.Builds.{Built, touched_of, missed, refused_at}
 use Rattle.collide_full.specs.Full.{tries_edge, pair_contact, contact_a, contact_b, winner_contact, instead_of, with_edge, found_contact, apart_built}
 use Rattle.collide_full.specs.Full.{after_search, full_of}
 
@@ -41,7 +42,7 @@ module _ (s : HullSize) (n : List Float) (l : List ℕ) (t : HullSize) (m : List
   pub record Each (P : Built → Type 0) (f : Found) : Type 0 where
     pub on_a : P (contact_a s n l t m k x f.face_a)
     pub on_b : P (contact_b s n l t m k x f.face_b)
-    pub on_pair : (e : Axis) → EdgeAxis.Pair e ≡ f.edge → P (pair_contact s n l t m k x e)
+    pub on_pair : (e : Axis) → Some e ≡ f.edge → P (pair_contact s n l t m k x e)
 
   module _ (P : Built → Type 0) (at_apart : (a : AxisApart) → Search.Apart a ≡ search_of s n l t m k x → P (apart_built a))
       (at_found : (f : Found) → Search.Found f ≡ search_of s n l t m k x → Each P f) where
@@ -49,11 +50,11 @@ module _ (s : HullSize) (n : List Float) (l : List ℕ) (t : HullSize) (m : List
     unfolding instead_of
     instead_has built e p q = picked P (tries_edge s.unit built e) (picked P (pair_contact s n l t m k x e).touching q p) p
 
-    edge_has : (built : Built) (edge : EdgeAxis) → P built → ((e : Axis) → EdgeAxis.Pair e ≡ edge → P (pair_contact s n l t m k x e))
+    edge_has : (built : Built) (edge : Option Axis) → P built → ((e : Axis) → Some e ≡ edge → P (pair_contact s n l t m k x e))
         → P (with_edge s n l t m k x built edge)
     unfolding with_edge
-    edge_has built (EdgeAxis.Pair e) p q = instead_has built e p (q e refl)
-    edge_has built EdgeAxis.None p q = p
+    edge_has built (Some e) p q = instead_has built e p (q e refl)
+    edge_has built None p q = p
 
     found_has : (f : Found) → Each P f → P (found_contact s n l t m k x f.face_a f.face_b f.edge)
     unfolding found_contact winner_contact
@@ -112,14 +113,14 @@ module _ (s : HullSize) (n : List Float) (l : List ℕ) (t : HullSize) (m : List
 
   -- an axis apart is of type 2, 3 or 4
   record Typed (z : Search) : Type 0 where
-    kind : (a : AxisApart) → Search.Apart a ≡ z → a.kind ≤ 4
+    kind : (a : AxisApart) → Search.Apart a ≡ z → kind_number a.kind ≤ 4
 
-  typed_apart : (kind : ℕ) (lead : Lead) → kind ≤ 4 → Typed (apart_of kind lead)
+  typed_apart : (kind : AxisKind) (lead : Lead) → kind_number kind ≤ 4 → Typed (apart_of kind lead)
   unfolding apart_of
   typed_apart kind lead h = record { kind = λ a e. rw (ap kind_of e) h }
     where
       kind_of : Search → ℕ
-      kind_of (Search.Apart a) = a.kind
+      kind_of (Search.Apart a) = kind_number a.kind
       kind_of (Search.Found f) = 0
 
   typed_found : (a b edge : Lead) → Typed (found_of a b edge)
@@ -133,8 +134,8 @@ module _ (s : HullSize) (n : List Float) (l : List ℕ) (t : HullSize) (m : List
   typed_search : Typed (search_of s n l t m k x)
   unfolding search_of search_answer_of
   typed_search =
-      picked Typed _ (typed_apart 2 _ (omega arith))
-      (picked Typed _ (typed_apart 3 _ (omega arith)) (picked Typed _ (typed_apart 4 _ (omega arith)) (typed_found _ _ _)))
+      picked Typed _ (typed_apart AxisKind.FaceA _ (omega arith))
+      (picked Typed _ (typed_apart AxisKind.FaceB _ (omega arith)) (picked Typed _ (typed_apart AxisKind.Edges _ (omega arith)) (typed_found _ _ _)))
 
   plain_apart : (a : AxisApart) → Search.Apart a ≡ search_of s n l t m k x → Plain (apart_built a)
   unfolding apart_built cache_of

@@ -36,13 +36,11 @@ use Rattle.reduce.specs.Reduce.{first_picks, points_of, places_of}
 use Rattle.reduce.specs.Chosen.{Chosen}
 use Rattle.reduce.proofs.Chosen.{chosen}
 use Rattle.axis.specs.declared.Axis.{Axis}
-use Rattle.axis.specs.declared.EdgeAxis.{EdgeAxis}
+use Rattle.std.specs.Prelude.{Option, Some, None}
 use Rattle.axis.specs.declared.Search.{Search}
 use Rattle.axis.specs.Search.{search_of}
-use Rattle.collide_outcome.specs.declared.Built.{Built}
-use Rattle.collide_outcome.specs.declared.Cached.{Cached}
-use Rattle.collide_outcome.specs.Builds.{touched_of, missed, refused_at}
-use Rattle.collide_outcome.specs.Served.{near_of, served_of, hit_with, no_hit}
+use Rattle.collide_outcome.specs.Builds.{Built, touched_of, missed, refused_at}
+use Rattle.collide_outcome.specs.Served.{Cached, near_of, served_of, hit_with, no_hit}
 use Rattle.collide_outcome.specs.Answers.{answer_of}
 use Rattle.contacts.specs.Faces.{images_on, picks_on, carried_of, contact_on_a, contact_on_b, on_face, face_a_of, face_b_of}
 use Rattle.contacts.specs.EdgePairs.{edge_point, nearest_of, along_of, edge_contact_of}
@@ -223,18 +221,18 @@ module _ (s : HullSize) (n : List Float) (l : List ℕ) (t : HullSize) (m : List
   abbrev Draws : Built → Source → Type 0
   Draws built source = built.contact ≡ From source
 
-  draws_with : (built : Built) (source : Source) (edge : EdgeAxis) → Made built source
+  draws_with : (built : Built) (source : Source) (edge : Option Axis) → Made built source
       → Draws (with_edge s n l t m k x built edge) (or_pair s n l t m k x (if_touching s n l t m k x source) edge)
   unfolding with_edge instead_of pair_contact or_pair if_touching
-  draws_with built source EdgeAxis.None d = d.contact
-  draws_with built source (EdgeAxis.Pair e) d =
+  draws_with built source None d = d.contact
+  draws_with built source (Some e) d =
       let pair = made_edges e.normal e.index_a e.index_b in
       choice Draws _ _ (tries built source e d)
       (λ h. choice Draws _ _ pair.touching (λ q. rw (sym pair.touching ∙ q) at pair.contact) (λ q. d.contact))
       (λ h. d.contact)
 
   -- a refusal that the face contact met stays one
-  draws_found : (a b : Axis) (edge : EdgeAxis) → (found_contact s n l t m k x a b edge).status ≡ 0
+  draws_found : (a b : Axis) (edge : Option Axis) → (found_contact s n l t m k x a b edge).status ≡ 0
       → Draws (found_contact s n l t m k x a b edge) (or_pair s n l t m k x (if_touching s n l t m k x (winner_of a b)) edge)
   unfolding found_contact
   draws_found a b edge q =

@@ -16,7 +16,8 @@ use Rattle.manifold.specs.declared.SatCache.{SatCache}
 use Rattle.hull_links.specs.declared.HullSize.{HullSize}
 use Rattle.hull_links.proofs.Tests.{cases}
 use Rattle.reduce_scores.specs.Images.{touching_of}
-use Rattle.axis.specs.declared.EdgeAxis.{EdgeAxis}
+use Rattle.axis.specs.declared.Axis.{Axis}
+use Rattle.std.specs.Prelude.{Option, Some, None}
 use Rattle.axis.specs.declared.Search.{Search}
 use Rattle.collide_cached.specs.Ridges.{ridge_of, carried_ridge, crosses_of}
 use Rattle.promises.specs.Numbers.{number_of}
@@ -46,10 +47,10 @@ module _ (s : HullSize) (n : List Float) (l : List ℕ) (t : HullSize) (m : List
   told_if source =
       cases (touches s n l t m k x source) (λ p. rw p (told_touching source p)) (λ p. rw p (λ q. record { why = _; is = refl }))
 
-  told_pair : (face : Source) (edge : EdgeAxis) → Told face → Told (or_pair s n l t m k x face edge)
+  told_pair : (face : Source) (edge : Option Axis) → Told face → Told (or_pair s n l t m k x face edge)
   unfolding or_pair
-  told_pair face EdgeAxis.None h = h
-  told_pair face (EdgeAxis.Pair e) h =
+  told_pair face None h = h
+  told_pair face (Some e) h =
       let pair = edges e.normal e.index_a e.index_b in
       picked Told (tried_over s n l t m k x face e)
       (cases (touches s n l t m k x pair) (λ p. rw p (told_touching pair p)) (λ p. rw p h)) h

@@ -17,8 +17,8 @@ use Rattle.hull_links.specs.declared.HullSize.{HullSize}
 use Rattle.hull_links.proofs.Tests.{cases}
 use Rattle.collide_refusals.specs.Refusals.{refusal_of}
 use Rattle.collide_refusals.proofs.Cases.{names_none}
-use Rattle.collide_outcome.specs.declared.Built.{Built}
-use Rattle.collide_outcome.specs.declared.Cached.{Cached}
+use Rattle.collide_outcome.specs.Builds.{Built}
+use Rattle.collide_outcome.specs.Served.{Cached}
 use Rattle.collide_outcome.specs.Answers.{retired_of, refused_of, answer_of}
 use Rattle.collide_outcome.proofs.Cases.{unmarked_below, unmarked_above, built_refused, built_accepted}
 use Rattle.collide_full.specs.Full.{full_of}

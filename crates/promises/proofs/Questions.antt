@@ -21,7 +21,7 @@ use Rattle.hull_links.proofs.Tests.{cases}
 use Rattle.hull_limits.specs.Transform.{transform_right}
 use Rattle.hull.specs.Rule8.{broken_rule}
 use Rattle.axis.specs.declared.Axis.{Axis}
-use Rattle.axis.specs.declared.EdgeAxis.{EdgeAxis}
+use Rattle.std.specs.Prelude.{Option, Some, None}
 use Rattle.axis.specs.declared.Found.{Found}
 use Rattle.axis.specs.declared.Search.{Search}
 use Rattle.axis.specs.Search.{search_of}
@@ -80,11 +80,11 @@ found_not_apart s n l t m k x f =
     if_touching_lem true source h = h
     if_touching_lem false source h = refl
 
-    with_pair : (face : Source) (e : EdgeAxis) → Not face → Not (or_pair s n l t m k x face e)
-    with_pair face (EdgeAxis.Pair e) h =
+    with_pair : (face : Source) (e : Option Axis) → Not face → Not (or_pair s n l t m k x face e)
+    with_pair face (Some e) h =
         picked Not (tried_over s n l t m k x face e)
         (picked Not (touches s n l t m k x (edges e.normal e.index_a e.index_b)) refl h) h
-    with_pair face EdgeAxis.None h = h
+    with_pair face None h = h
 
 -- hull A is (s, n, l), hull B is (t, m, k), x places B in A's frame, and r is what `contact_apart` gives
 module _ (s : HullSize) (n : List Float) (l : List ℕ) (t : HullSize) (m : List Float) (k : List ℕ) (x : Transform) (r : Apart)

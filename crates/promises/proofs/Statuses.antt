@@ -29,15 +29,13 @@ use Rattle.hull.specs.Accepted.{Accepted}
 use Rattle.clip.specs.Candidates.{candidates_of}
 use Rattle.reduce_scores.specs.Images.{least_separation_of, touching_of}
 use Rattle.axis.specs.declared.Axis.{Axis}
-use Rattle.axis.specs.declared.EdgeAxis.{EdgeAxis}
+use Rattle.std.specs.Prelude.{Option, Some, None}
 use Rattle.axis.specs.declared.Search.{Search}
-use Rattle.collide_outcome.specs.declared.Built.{Built}
-use Rattle.collide_outcome.specs.Builds.{touched_of}
+use Rattle.collide_outcome.specs.Builds.{Built, touched_of}
 use Rattle.contacts.specs.Faces.{on_face, face_a_of, face_b_of}
 use Rattle.contacts.specs.EdgePairs.{nearest_of, along_of, edge_contact_of}
-use Rattle.collide_outcome.specs.declared.Cached.{Cached}
+use Rattle.collide_outcome.specs.Served.{Cached, near_of, served_of}
 use Rattle.collide_cached.specs.Ridges.{ridge_of, carried_ridge, crosses_of, axis_between}
-use Rattle.collide_outcome.specs.Served.{near_of, served_of}
 use Rattle.collide_cached.specs.Again.{deepest_below_a, separation_from_a, cached_face_a_of, deepest_below_b, separation_from_b, cached_face_b_of}
 use Rattle.collide_cached.specs.Again.{cached_edge_of}
 use Rattle.collide_full.specs.Full.{apart_built, tries_edge, pair_contact, contact_a, contact_b, winner_contact, instead_of, with_edge, found_contact}
@@ -104,12 +102,12 @@ module _ (s : HullSize) (n : List Float) (l : List ℕ) (t : HullSize) (m : List
   status_pair e = picked Fine (is_within_segments_of (nearest_of s n l t m k x e.index_a e.index_b)) refl refl
 
   -- ---- the full search
-  fine_with : (built : Built) (edge : EdgeAxis) → Fine built → Fine (with_edge s n l t m k x built edge)
+  fine_with : (built : Built) (edge : Option Axis) → Fine built → Fine (with_edge s n l t m k x built edge)
   unfolding with_edge instead_of
-  fine_with built (EdgeAxis.Pair e) q = picked Fine (tries_edge s.unit built e) (picked Fine (pair_contact s n l t m k x e).touching (status_pair e) q) q
-  fine_with built EdgeAxis.None q = q
+  fine_with built (Some e) q = picked Fine (tries_edge s.unit built e) (picked Fine (pair_contact s n l t m k x e).touching (status_pair e) q) q
+  fine_with built None q = q
 
-  status_found : (a b : Axis) (edge : EdgeAxis) → (found_contact s n l t m k x a b edge).status ≡ (winner_contact s n l t m k x a b).status
+  status_found : (a b : Axis) (edge : Option Axis) → (found_contact s n l t m k x a b edge).status ≡ (winner_contact s n l t m k x a b).status
   unfolding found_contact
   status_found a b edge =
       let w = winner_contact s n l t m k x a b in

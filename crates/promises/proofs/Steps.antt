@@ -23,7 +23,7 @@ use Rattle.axis.specs.declared.AxisApart.{AxisApart}
 use Rattle.axis.specs.declared.Search.{Search}
 use Rattle.axis.specs.Search.{search_of}
 use Rattle.axis.specs.Meaning.{cache_of}
-use Rattle.collide_outcome.specs.declared.Cached.{Cached}
+use Rattle.collide_outcome.specs.Served.{Cached}
 use Rattle.collide_cached.specs.Ridges.{ridge_of, carried_ridge, crosses_of, axis_between}
 use Rattle.collide_cached.specs.Again.{separation_from_a, separation_from_b, cached_face_a_of, cached_face_b_of, cached_edge_of}
 use Rattle.collide_full.specs.Full.{apart_built, after_search, full_of}

@@ -34,7 +34,7 @@ use Rattle.axis_faces.specs.Support.{splat_of, least_lanes}
 use Rattle.axis.specs.declared.Axis.{Axis}
 use Rattle.reduce_scores.specs.Images.{touching_of}
 use Rattle.reduce.specs.Reduce.{first_picks}
-use Rattle.collide_outcome.specs.declared.Built.{Built}
+use Rattle.collide_outcome.specs.Builds.{Built}
 use Rattle.collide_outcome.specs.Served.{near_of}
 use Rattle.collide_full.specs.Full.{tries_edge}
 use Rattle.collide_refusals.specs.Refusals.{cache_right, unless, refusal_of}

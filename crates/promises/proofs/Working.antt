@@ -16,9 +16,8 @@ use Rattle.manifold.specs.declared.Answer.{Answer}
 use Rattle.manifold.specs.Records.{empty_contact, hit_set}
 use Rattle.hull_links.specs.declared.HullSize.{HullSize}
 use Rattle.collide_refusals.specs.Refusals.{cache_right, refusal_of}
-use Rattle.collide_outcome.specs.declared.Cached.{Cached}
+use Rattle.collide_outcome.specs.Served.{Cached, near_of, served_of}
 use Rattle.collide_outcome.specs.Answers.{retired_of, refused_of, answer_of}
-use Rattle.collide_outcome.specs.Served.{near_of, served_of}
 use Rattle.collide_cached.specs.Again.{cached_face_a_of, cached_face_b_of, cached_edge_of}
 use Rattle.collide_full.specs.Full.{full_of}
 use Rattle.collide.specs.Call.{after_cached, worked_of, collide_of}

@@ -1,6 +1,6 @@
 -- Which source a call has: document 01's section "One call", read for the candidates of its contact. Definitions only; proofs/Points.antt shows of
 -- every call that its points are drawn from these candidates and from no others.
-use Rattle.std.specs.Prelude.{ℕ, Bool, true, false, cond, List, length, eqb, ℤ, pos, Float}
+use Rattle.std.specs.Prelude.{ℕ, Bool, true, false, cond, List, length, eqb, ℤ, pos, Float, Option, Some, None}
 use Rattle.std.specs.Int.Signed.{lt_z}
 use Rattle.std.specs.Float.Ieee as Ieee
 use Rattle.vector.specs.declared.Transform.{Transform}
@@ -11,7 +11,6 @@ use Rattle.units.specs.Limits.{slop, speculative}
 use Rattle.manifold.specs.declared.SatCache.{SatCache}
 use Rattle.hull_links.specs.declared.HullSize.{HullSize}
 use Rattle.axis.specs.declared.Axis.{Axis}
-use Rattle.axis.specs.declared.EdgeAxis.{EdgeAxis}
 use Rattle.axis.specs.declared.Search.{Search}
 use Rattle.axis.specs.Search.{search_of}
 use Rattle.collide_cached.specs.declared.ridges.Ridge.{Ridge}
@@ -34,11 +33,11 @@ module _ (s : HullSize) (n : List Float) (l : List ℕ) (t : HullSize) (m : List
   tried_over face e =
       cond (eqb (length (places_from s n l t m k x face)) 0) true (Ieee.lt (separation_from s n l t m k x face ⊕ slop s.unit) e.separation)
 
-  unfoldable pub or_pair : Source → EdgeAxis → Source
-  or_pair face (EdgeAxis.Pair e) =
+  unfoldable pub or_pair : Source → Option Axis → Source
+  or_pair face (Some e) =
       let pair = edges e.normal e.index_a e.index_b in
       cond (tried_over face e) (cond (touches s n l t m k x pair) pair face) face
-  or_pair face EdgeAxis.None = face
+  or_pair face None = face
 
   unfoldable pub search_source : Search → Source
   search_source (Search.Apart a) = none apart

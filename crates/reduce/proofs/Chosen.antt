@@ -10,6 +10,7 @@ use lib.Dec.{eqb, leb}
 use lib.ListN.{length, get_or, length-append, length-map, get_or-append}
 use lib.Seq.{ext_get_or, get_or_at}
 use lib.Ieee.{Float, lt}
+use Rattle.std.specs.Prelude.{Option, Some, None, unwrap_or}
 use borrow.Author.Tests.{eqb-true, eqb-false, leb-true}
 use Rattle.vector.specs.declared.Vec3.{Vec3}
 use Rattle.vector.specs.Rounded.{float}
@@ -21,7 +22,7 @@ use Rattle.reduce_points.specs.Points.{point_of, placed}
 use Rattle.reduce_points.proofs.Placed.{length_placed, at_placed, placed_map}
 use Rattle.reduce.specs.Chosen.{Chosen}
 use Rattle.reduce.specs.Reduce.{without, standing, taken, tolerance, first_best, second_best, third_best, fourth_best, fourth_picks, third_picks}
-use Rattle.reduce.specs.Reduce.{second_picks, first_picks, all_or_picked, points_of, numbered, places_of}
+use Rattle.reduce.specs.Reduce.{second_picks, first_picks, found_then, all_or_picked, points_of, numbered, places_of}
 use Rattle.reduce.proofs.Cases.{cases}
 use Rattle.reduce.proofs.Standing.{standing_low, standing_other, standing_same, length_without, at_without}
 use Rattle.reduce.proofs.Answers.{first_low, second_low, third_low, fourth_low}
@@ -37,9 +38,10 @@ picked_few none = omega arith
 picked_few (one h p) = let q = picked_few p in omega arith
 
 -- what a search that may find nothing picks
-where_found : (found : Bool) (k n j : ℕ) (js : List ℕ) → (found ≡ true → j < n) → Picked k js (n - 1) → Picked (suc k) (cond found (j ∷ js) []) n
-where_found true k n j js h p = one (h refl) p
-where_found false k n j js h p = none
+where_found : (found : Option ℕ) (k n : ℕ) (js : ℕ → List ℕ) → ((j : ℕ) → found ≡ Some j → j < n) → ((j : ℕ) → Picked k (js j) (n - 1))
+    → Picked (suc k) (found_then found js) n
+where_found (Some j) k n js h p = one (h j refl) (p j)
+where_found None k n js h p = none
 
 where_enough : (short : Bool) (k n j : ℕ) (js : List ℕ) → (short ≡ false → j < n) → Picked k js (n - 1) → Picked (suc k) (cond short [] (j ∷ js)) n
 where_enough true k n j js h p = none
@@ -51,33 +53,33 @@ module _ (far : Float) (positive : lt (float 0) (tolerance far) ≡ true) (norma
   fourth_picked v1 v2 v3 l n e =
       let t = triangle_of normal v1.position v2.position v3.position in
       let best = fourth_best normal (tolerance far) t l in
-      where_found best.found 0 n best.index [] (λ h. rw (← e) (fourth_low (tolerance far) normal t l best refl h)) none
+      where_found best.index 0 n (λ j. []) (λ j h. rw (← e) (fourth_low (tolerance far) normal t l best refl j h)) (λ j. none)
 
   third_picked : (v1 v2 : ClipVertex) (l : List ClipVertex) (n : ℕ) → length l ≡ n → Picked 2 (third_picks far normal v1 v2 l) n
   unfolding third_picks
   third_picked v1 v2 l n e =
       let best = third_best normal (tolerance far) v1.position v2.position l in
-      let rest = without past_vertex l best.index in
-      where_found best.found 1 n best.index (fourth_picks far normal v1 v2 (get_or l best.index past_vertex) rest)
-      (λ h. rw (← e) (third_low (tolerance far) normal v1.position v2.position l best refl h))
-      (fourth_picked v1 v2 (get_or l best.index past_vertex) rest (n - 1) (length_without past_vertex l best.index ∙ ap (λ (m : ℕ). m - 1) e))
+      where_found best.index 1 n (λ j. fourth_picks far normal v1 v2 (get_or l j past_vertex) (without past_vertex l j))
+      (λ j h. rw (← e) (third_low (tolerance far) normal v1.position v2.position l best refl j h))
+      (λ j. fourth_picked v1 v2 (get_or l j past_vertex) (without past_vertex l j) (n - 1) (length_without past_vertex l j ∙ ap (λ (m : ℕ). m - 1) e))
 
   second_picked : (v1 : ClipVertex) (l : List ClipVertex) (n : ℕ) → length l ≡ n → Picked 3 (second_picks far normal v1 l) n
   unfolding second_picks
   second_picked v1 l n e =
       let best = second_best normal v1.position l in
-      let rest = without past_vertex l best.index in
-      where_enough (lt best.score (tolerance far)) 2 n best.index (third_picks far normal v1 (get_or l best.index past_vertex) rest)
+      let j = unwrap_or best.index 0 in
+      let rest = without past_vertex l j in
+      where_enough (lt best.score (tolerance far)) 2 n j (third_picks far normal v1 (get_or l j past_vertex) rest)
       (λ h. rw (← e) (second_low (tolerance far) positive normal v1.position l best refl h))
-      (third_picked v1 (get_or l best.index past_vertex) rest (n - 1) (length_without past_vertex l best.index ∙ ap (λ (m : ℕ). m - 1) e))
+      (third_picked v1 (get_or l j past_vertex) rest (n - 1) (length_without past_vertex l j ∙ ap (λ (m : ℕ). m - 1) e))
 
   first_picked : (direction : Vec3) (l : List ClipVertex) → Picked 4 (first_picks far direction normal l) (length l)
   unfolding first_picks
   first_picked direction l =
       let best = first_best far direction l in
-      let rest = without past_vertex l best.index in
-      where_found best.found 3 (length l) best.index (second_picks far normal (get_or l best.index past_vertex) rest) (first_low far direction l best refl)
-      (second_picked (get_or l best.index past_vertex) rest (length l - 1) (length_without past_vertex l best.index))
+      where_found best.index 3 (length l) (λ j. second_picks far normal (get_or l j past_vertex) (without past_vertex l j))
+      (first_low far direction l best refl)
+      (λ j. second_picked (get_or l j past_vertex) (without past_vertex l j) (length l - 1) (length_without past_vertex l j))
 
 -- ---- what is taken
 module _ {A : Type 0} (d : A) where

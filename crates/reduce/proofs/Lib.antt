@@ -4,4 +4,5 @@ pub mod Listed
 pub mod Standing
 pub mod Answers
 pub mod Picks
+pub mod Taking
 pub mod Chosen

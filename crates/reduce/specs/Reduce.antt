@@ -1,6 +1,6 @@
 -- "More than four candidates: up to four picks by the scores in `reduce_manifold_points`, each pick's place filled by the last candidate." Each point
 -- says which candidate it is, by "the place of its candidate in the list as it stood before any pick" (document 02, d). Definitions only.
-use Rattle.std.specs.Prelude.{ℕ, zero, suc, ◌-◌, cond, false, List, [], ◌∷◌, ◌++◌, length, take, set, get_or, eqb, leb, Float}
+use Rattle.std.specs.Prelude.{ℕ, zero, suc, ◌-◌, cond, Option, Some, None, unwrap_or, List, [], ◌∷◌, ◌++◌, length, take, set, get_or, eqb, leb, Float}
 use Rattle.std.specs.Float.Ieee as Ieee
 use Rattle.vector.specs.declared.Vec3.{Vec3}
 use Rattle.vector.specs.Rounded.{float, ◌⊗◌}
@@ -32,7 +32,7 @@ taken d (j ∷ js) l = get_or l j d ∷ taken d js (without d l j)
 
 -- ---- the searches: the best of a list by each score
 abbrev none : Float → Best
-none score = record { found = false; index = 0; score = score }
+none score = record { index = None; score = score }
 
 abbrev at : List ClipVertex → ℕ → ClipVertex
 at l i = get_or l i past_vertex
@@ -51,6 +51,11 @@ unfoldable pub fourth_best : Vec3 → Float → Triangle → List ClipVertex →
 fourth_best normal tolerance t l = turns (λ (best : Best) (i : ℕ). better_pick_of best i (outside_of normal t (at l i).position)) (none tolerance) (length l)
 
 -- ---- the picks: the index that each search finds, in the list as it then stands; `far` is the speculative distance
+-- what is found and what is picked after it; nothing where nothing is found
+abbrev pub found_then : Option ℕ → (ℕ → List ℕ) → List ℕ
+found_then None picks = []
+found_then (Some j) picks = j ∷ picks j
+
 -- speculative * speculative
 abbrev pub tolerance : Float → Float
 tolerance far = far ⊗ far
@@ -58,22 +63,25 @@ tolerance far = far ⊗ far
 unfoldable pub fourth_picks : Float → Vec3 → ClipVertex → ClipVertex → ClipVertex → List ClipVertex → List ℕ
 fourth_picks far normal v1 v2 v3 l =
     let best = fourth_best normal (tolerance far) (triangle_of normal v1.position v2.position v3.position) l in
-    cond best.found (best.index ∷ []) []
+    found_then best.index (λ j. [])
 
 unfoldable pub third_picks : Float → Vec3 → ClipVertex → ClipVertex → List ClipVertex → List ℕ
 third_picks far normal v1 v2 l =
     let best = third_best normal (tolerance far) v1.position v2.position l in
-    cond best.found (best.index ∷ fourth_picks far normal v1 v2 (at l best.index) (without past_vertex l best.index)) []
+    found_then best.index (λ j. fourth_picks far normal v1 v2 (at l j) (without past_vertex l j))
 
+-- the second search starts from a score of 0: whatever reaches the tolerance is picked, the first where none was found (of a tolerance above 0 there
+-- is always one)
 unfoldable pub second_picks : Float → Vec3 → ClipVertex → List ClipVertex → List ℕ
 second_picks far normal v1 l =
     let best = second_best normal v1.position l in
-    cond (Ieee.lt best.score (tolerance far)) [] (best.index ∷ third_picks far normal v1 (at l best.index) (without past_vertex l best.index))
+    let j = unwrap_or best.index 0 in
+    cond (Ieee.lt best.score (tolerance far)) [] (j ∷ third_picks far normal v1 (at l j) (without past_vertex l j))
 
 unfoldable pub first_picks : Float → Vec3 → Vec3 → List ClipVertex → List ℕ
 first_picks far direction normal l =
     let best = first_best far direction l in
-    cond best.found (best.index ∷ second_picks far normal (at l best.index) (without past_vertex l best.index)) []
+    found_then best.index (λ j. second_picks far normal (at l j) (without past_vertex l j))
 
 -- ---- the points: all, in order, of four or fewer; else what the picks take
 unfoldable pub all_or_picked : {A : Type 0} → A → List ℕ → List A → List A

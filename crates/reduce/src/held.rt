@@ -1,51 +1,46 @@
-// The positions of the images, worked out once before the four searches read them: 192 numbers, 64 along x, then along y, then along z. The rest of an
-// image is its candidate's. What they hold is in specs/inner/Held.antt.
-ghost use Rattle.std.specs.Prelude.{◌≡◌, ◌+◌, ◌≤◌, ◌<◌, length};
-ghost use Rattle.clip_corners.specs.Places.{Roomy, corner_in};
-ghost use Rattle.reduce.specs.inner.Held.{position_in, position_with, moved, Held};
+// The images of candidates, their positions held and the rest of each read from its candidate. What is held is in specs/inner/Held.antt.
+ghost use Rattle.std.specs.Prelude.{◌≡◌, ◌+◌, ◌≤◌, ◌<◌, get_or};
+ghost use Rattle.manifold.specs.Records.{past_vertex};
+ghost use Rattle.clip_corners.specs.Places.{corner_in};
+ghost use Rattle.reduce.specs.inner.Held.{position_in, moved, Held, Holds, images_of};
 
-use clip_corners::corner_at;
+use crate::positions::Positions;
+use clip_corners::Corners;
 use manifold::ClipVertex;
 use reduce_scores::images::image_at;
 use vector::Vec3;
 
-// The image of candidate i.
-pub fn held_at(held: &[f32], places: &[f32], tags: &[u8], from: usize, i: usize) -> ClipVertex
-    requires { (length held.now ≡ 192) × Roomy places.now tags.now × (from ≤ 64) × (i < 64) }
-    ensures { result ≡ moved (position_in held.now i) (corner_in places.now tags.now (from + i)) }
-{
-    let v = corner_at(places, tags, from + i);
-    let pair = v.pair;
-    ClipVertex {
-        position: Vec3 {
-            x: held[i],
-            y: held[64 + i],
-            z: held[128 + i],
-        },
-        separation: v.separation,
-        pair,
+// The images of the n candidates from corner `from` on.
+#[derive(Clone, Copy)]
+pub struct Images<'a> {
+    pub positions: &'a Positions,
+    pub corners: &'a Corners,
+    pub from: usize,
+    pub n: usize,
+    pub normal: Vec3,
+}
+
+impl Images<'_> {
+    // Candidate i at the position that is held: its image, where the images are held.
+    pub fn at(&self, i: usize) -> ClipVertex
+        requires { (self.now.from ≤ 64) × (i < 64) }
+        ensures read { result ≡ moved (position_in self.now.positions.now i)
+            (corner_in self.now.corners.now.numbers self.now.corners.now.tags (self.now.from + i)) }
+        ensures image { Holds self.now → i < self.now.n → result ≡ get_or (images_of self.now) i past_vertex }
+    {
+        ClipVertex {
+            position: self.positions.at(i),
+            ..self.corners.corner_at(self.from + i)
+        }
     }
 }
 
-// Position i becomes p.
-fn put_position(held: &mut [f32], i: usize, p: Vec3)
-    requires { (length held.old ≡ 192) × (i < 64) }
-    ensures { held.new ≡ position_with held.old i p }
+// The positions of the images of the n candidates from corner `from` on are held.
+pub fn hold(corners: &Corners, from: usize, n: usize, normal: Vec3, positions: &mut Positions)
+    requires { (from ≤ 64) × (n ≤ 64) }
+    ensures { Held normal corners.now.numbers corners.now.tags from n positions.new }
 {
-    held[i] = p.x;
-    held[64 + i] = p.y;
-    held[128 + i] = p.z;
-}
-
-// The images of the n candidates from corner `from` on are held.
-pub fn hold(places: &[f32], tags: &[u8], from: usize, n: usize, normal: Vec3, held: &mut [f32])
-    requires { Roomy places.now tags.now × (from ≤ 64) × (n ≤ 64) × (length held.old ≡ 192) }
-    ensures { Held normal places.now tags.now from n held.new }
-{
-    let mut i = 0;
-    while i < n {
-        let v = image_at(places, tags, from + i, normal);
-        put_position(held, i, v.position);
-        i += 1;
+    for i in 0..n {
+        positions.put(i, image_at(corners, from + i, normal).position);
     }
 }

@@ -12,17 +12,15 @@ use vector::Vec3;
 pub fn point_of(place: u8, v: ClipVertex) -> Point
     ensures { result ≡ point_of place v }
 {
-    let position = v.position;
-    let pair = v.pair;
     Point {
-        position,
+        position: v.position,
         separation: v.separation,
-        pair,
+        pair: v.pair,
         place,
     }
 }
 
-// The contact of one point.
+// The contact of one point, and of two, three and four. Each is one literal; one function for all would copy a list of any length in a loop.
 pub fn one_point(p1: Point, normal: Vec3) -> Contact
     ensures { result ≡ contact_of normal (p1 ∷ []) }
 {

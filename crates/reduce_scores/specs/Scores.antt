@@ -1,5 +1,5 @@
 -- The four scores of `reduce_manifold_points`, each operation rounded once in the order of the text, and the bias of 0.95. Definitions only.
-use Rattle.std.specs.Prelude.{ℕ, cond, true, Float}
+use Rattle.std.specs.Prelude.{ℕ, cond, Some, Float}
 use Rattle.std.specs.Float.Ieee as Ieee
 use Rattle.vector.specs.declared.Vec3.{Vec3}
 use Rattle.vector.specs.Rounded.{float, ◌⊕◌, ◌⊗◌}
@@ -15,10 +15,10 @@ bias = float 0x3f73_3333
 
 -- candidate i takes the place of the best: `bias * score > best_score`, and `bias * score >= best_score`
 unfoldable pub better_pick_of : Best → ℕ → Float → Best
-better_pick_of best i score = cond (Ieee.lt best.score (bias ⊗ score)) (record { found = true; index = i; score = score }) best
+better_pick_of best i score = cond (Ieee.lt best.score (bias ⊗ score)) (record { index = Some i; score = score }) best
 
 unfoldable pub as_good_of : Best → ℕ → Float → Best
-as_good_of best i score = cond (Ieee.le best.score (bias ⊗ score)) (record { found = true; index = i; score = score }) best
+as_good_of best i score = cond (Ieee.le best.score (bias ⊗ score)) (record { index = Some i; score = score }) best
 
 -- step 1, "extreme point that is touching"
 unfoldable pub reach_of : Vec3 → ClipVertex → Float

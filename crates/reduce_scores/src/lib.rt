@@ -15,11 +15,10 @@ use vector::scalar::max_float;
 // A score has to be better than the best by a twentieth.
 const BIAS: f32 = 0.95;
 
-// The best candidate so far: its index in the list as it stands, and its score.
+// The best candidate so far: its index in the list as it stands, if there is one, and the score that the next has to reach.
 #[derive(Clone, Copy)]
 pub struct Best {
-    pub found: bool,
-    pub index: usize,
+    pub index: Option<usize>,
     pub score: f32,
 }
 
@@ -38,22 +37,20 @@ pub fn better(best: Best, i: usize, score: f32) -> Best
 {
     if BIAS * score > best.score {
         return Best {
-            found: true,
-            index: i,
+            index: Some(i),
             score,
         };
     }
     best
 }
 
-// The same, also where the two are equal.
+// The same, also where the two are equal. Two functions, since a test that is passed in would be longer than both.
 pub fn as_good(best: Best, i: usize, score: f32) -> Best
     ensures { result ≡ as_good_of best i score }
 {
     if BIAS * score >= best.score {
         return Best {
-            found: true,
-            index: i,
+            index: Some(i),
             score,
         };
     }

@@ -43,7 +43,7 @@ fn guess(digits: u64, odd: u64) -> u64
 }
 
 // The whole number g nearest to √n, which lies between g - 1/2 and g + 1/2. So n lies between g * g - g and
-// g * g + g: the quarter that both squares have is dropped, since n is whole.
+// g * g + g: the quarter that both squares have is dropped, since n is whole. The loops mend g and count nothing, so they are no `for`.
 fn nearest(n: u64, guess: u64) -> u64
     requires { (70368744177664 ≤ n) × (n ≤ 281474959933440) × (guess < 268435456) }
     ensures { (result * result < n + result) × (n ≤ result * result + result) }

@@ -14,6 +14,7 @@ use Rattle.frame.specs.Frames.{fault_of}
 use Rattle.frame.specs.Lines.{line_answer, longest_line_answer}
 use Rattle.frame.proofs.Lengths.{line_length, line_long}
 use Rattle.frame.proofs.Puts.{answers_same, answer_first}
+use Rattle.std.specs.Prelude.{None, Some}
 use Rattle.stream_pending.specs.declared.Pending.{Pending}
 use Rattle.stream.specs.declared.Part.{Part}
 use Rattle.stream_pending.specs.Ends.{line_end, to_end, longest_told}
@@ -53,13 +54,13 @@ pub answer_most : (xs : List ℕ) {o o' : List ℕ} {r : ℕ} → Answers (line_
 answer_most xs a = omega (arith, a.count, line_length xs)
 
 -- ---- the answer to the characters that are held: too many, kept, none but those that came last
-pub answers_long : {xs line o o' : List ℕ} {p : Pending} {r : ℕ} → p.over ≡ true → Held xs line p → Answers (hex_of (fault_of 0x24)) o r o'
+pub answers_long : {xs line o o' : List ℕ} {p : Pending} {r : ℕ} → p.kept ≡ None → Held xs line p → Answers (hex_of (fault_of 0x24)) o r o'
     → Answers (line_answer xs) o r o'
-answers_long {xs} e h a = answers_same a (sym (line_long xs (h.long e)))
+answers_long {xs} e h a = answers_same a (sym (line_long xs (rw e at h.long)))
 
-pub answers_kept : {xs line o o' : List ℕ} {p : Pending} {r : ℕ} → p.over ≡ false → Held xs line p → Answers (line_answer (take p.len line)) o r o'
+pub answers_kept : {xs line o o' : List ℕ} {p : Pending} {len r : ℕ} → p.kept ≡ Some len → Held xs line p → Answers (line_answer (take len line)) o r o'
     → Answers (line_answer xs) o r o'
-answers_kept e h a = answers_same a (ap line_answer (sym (h.kept e)))
+answers_kept e h a = answers_same a (ap line_answer (sym (rw e at h.kept)))
 
 pub answers_whole : (part : List ℕ) {xs line o o' : List ℕ} {p : Pending} {r : ℕ} → nothing p ≡ true → Held xs line p → Answers (line_answer part) o r o'
     → Answers (line_answer (xs ++ part)) o r o'
@@ -81,7 +82,7 @@ last_held {xs} e r h a = answers_same a (some_last xs (something_held e r h))
 
 -- ---- the next line, or what there is of it
 pub tells_line : {xs rest line' o o' : List ℕ} {n k : ℕ} → n ≡ to_end rest → n < length rest → Answers (line_told (xs ++ take n rest)) o k o'
-    → Tells xs rest o (record { taken = n + 1; held = record { len = 0; over = false }; count = k }) line' o'
+    → Tells xs rest o (record { taken = n + 1; held = record { kept = Some 0 }; count = k }) line' o'
 tells_line {xs} {rest} {line'} {n = n} e l a =
     record {
       held = rw (e, line_held xs rest (rw e at l)) (held_none line');

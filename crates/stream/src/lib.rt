@@ -15,7 +15,7 @@ ghost use Rattle.stream.specs.Tells.{Tells};
 ghost use Rattle.stream.specs.Told.{line_told, told_last};
 
 use frame::lines::line_answer;
-use lists::write_byte;
+use lists::write;
 use stream_pending::{Pending, end_line, goes_on, hold, is_nothing, line_end};
 
 // How many characters were told, what is held behind them, and how many places the answers take.
@@ -31,10 +31,10 @@ fn put_long(out: &mut [u8]) -> usize
     requires { longest_line_answer ≤ length out.old }
     ensures { Answers (hex_of (fault_of 0x24)) out.old result out.new }
 {
-    write_byte(out, 0, b'f');
-    write_byte(out, 1, b'f');
-    write_byte(out, 2, b'2');
-    write_byte(out, 3, b'4');
+    write(out, 0, b'f');
+    write(out, 1, b'f');
+    write(out, 2, b'2');
+    write(out, 3, b'4');
     4
 }
 
@@ -44,11 +44,10 @@ fn answer_held(line: &[u8], p: Pending, out: &mut [u8]) -> usize
     ensures { (result ≤ longest_line_answer)
         × ((xs : List ℕ) → Held xs line.now p → Answers (line_answer xs) out.old result out.new) }
 {
-    if p.over {
-        return put_long(out);
+    match p.kept {
+        Some(len) => line_answer(&line[..len], out),
+        None => put_long(out),
     }
-    let len = p.len;
-    line_answer(&line[..len], out)
 }
 
 // The answer to the line that is held and ends with these characters.
@@ -60,8 +59,8 @@ fn answer_ended(part: &[u8], line: &mut [u8], p: Pending, out: &mut [u8]) -> usi
     if is_nothing(p) {
         return line_answer(part, out);
     }
-    let q = hold(part, line, p);
-    answer_held(line, q, out)
+    let held = hold(part, line, p);
+    answer_held(line, held, out)
 }
 
 // What is told of the line that is held and ends with these characters.
@@ -99,17 +98,13 @@ fn tell_next(rest: &[u8], line: &mut [u8], p: Pending, out: &mut [u8]) -> Part
         let count = tell_line(&rest[..n], line, p, out);
         return Part {
             taken: n + 1,
-            held: Pending {
-                len: 0,
-                over: false,
-            },
-            count: count,
+            held: Pending { kept: Some(0) },
+            count,
         };
     }
-    let q = hold(rest, line, p);
     Part {
         taken: n,
-        held: q,
+        held: hold(rest, line, p),
         count: 0,
     }
 }
@@ -122,19 +117,24 @@ pub fn tell_part(chunk: &[u8], line: &mut [u8], p: Pending, out: &mut [u8]) -> P
         × ((xs : List ℕ) → Held xs line.old p
         → Tells xs chunk.now out.old result line.new out.new) }
 {
-    let mut i = 0;
-    let mut q = p;
-    let mut n = 0;
-    while goes_on(i, chunk.len(), n, out.len()) {
-        let t = tell_next(&chunk[i..], line, q, &mut out[n..]);
-        i += t.taken;
-        let held = t.held;
-        q = held;
-        n += t.count;
+    let mut told = Part {
+        taken: 0,
+        held: p,
+        count: 0,
+    };
+    // A turn goes on by the length of a line, so no `for` counts the turns.
+    while goes_on(told.taken, chunk.len(), told.count, out.len()) {
+        let next = tell_next(
+            &chunk[told.taken..],
+            line,
+            told.held,
+            &mut out[told.count..],
+        );
+        told = Part {
+            taken: told.taken + next.taken,
+            held: next.held,
+            count: told.count + next.count,
+        };
     }
-    Part {
-        taken: i,
-        held: q,
-        count: n,
-    }
+    told
 }

@@ -3,57 +3,39 @@
 #![tactic(auto)]
 
 ghost use Rattle.std.specs.Prelude.{true, false, List, ◌++◌, ◌≡◌, ℕ, ◌+◌, ◌≤◌, ◌<◌, length, set};
-ghost use Rattle.stream_pending.specs.inner.Copied.{Copied};
 ghost use Rattle.stream_pending.specs.Ends.{to_end, longest_told};
 ghost use Rattle.stream_pending.specs.Held.{Ready, Held, nothing};
 
 // The most characters that are kept of a line.
 const MOST: usize = 20000;
 
-const LINE_END: u8 = 10;
+const LINE_END: u8 = b'\n';
 
 // The longest answer in characters, and its line end.
 const LONGEST: usize = 217;
 
-// What is held of a line whose end has not come: how many characters, and whether there were more than are kept.
+// What is held of a line whose end has not come: how many characters, or nothing but that there were more than are kept.
 #[derive(Clone, Copy)]
 pub struct Pending {
-    pub len: usize,
-    pub over: bool,
+    pub kept: Option<usize>,
 }
 
 // The place of the first line end, or of the end.
 pub fn line_end(rest: &[u8]) -> usize
     ensures { result ≡ to_end rest.now }
 {
-    let mut i = 0;
-    while i < rest.len() {
+    for i in 0..rest.len() {
         if rest[i] == LINE_END {
             return i;
         }
-        i += 1;
     }
-    i
-}
-
-fn copy(part: &[u8], line: &mut [u8], at: usize)
-    requires { at + length part.now ≤ length line.old }
-    ensures { Copied part.now line.old at (length part.now) line.new }
-{
-    let mut i = 0;
-    while i < part.len() {
-        line[at + i] = part[i];
-        i += 1;
-    }
+    rest.len()
 }
 
 pub fn is_nothing(p: Pending) -> bool
     ensures { result ≡ nothing p }
 {
-    if p.over {
-        return false;
-    }
-    p.len == 0
+    p.kept == Some(0)
 }
 
 // More characters of the line that is held.
@@ -62,20 +44,15 @@ pub fn hold(part: &[u8], line: &mut [u8], p: Pending) -> Pending
     ensures { Ready line.new result
         × ((xs : List ℕ) → Held xs line.old p → Held (xs ++ part.now) line.new result) }
 {
-    if p.over {
+    let Some(len) = p.kept else {
         return p;
-    }
-    let len = p.len;
+    };
     if MOST - len < part.len() {
-        return Pending {
-            len: len,
-            over: true,
-        };
+        return Pending { kept: None };
     }
-    copy(part, line, len);
+    line[len..len + part.len()].copy_from_slice(part);
     Pending {
-        len: len + part.len(),
-        over: false,
+        kept: Some(len + part.len()),
     }
 }
 
@@ -93,8 +70,5 @@ pub fn goes_on(i: usize, length: usize, n: usize, room: usize) -> bool
     requires { n ≤ room }
     ensures { (result ≡ true → (i < length) × (n + longest_told ≤ room)) × (result ≡ false → i < length → room < n + longest_told) }
 {
-    if i < length {
-        return LONGEST <= room - n;
-    }
-    false
+    i < length && LONGEST <= room - n
 }

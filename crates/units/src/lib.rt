@@ -1,4 +1,6 @@
 // The length unit that a hull carries, and every limit that goes by it, formed as constants.rs does: a length of document 01 times the units per metre.
+// A unit is a number and no enum, since a hull comes from C with any number there. Each limit is its constant's name in the Rust and one product, so that
+// a function of the constant would say no more than the product.
 #![tactic(auto)]
 
 ghost use Rattle.std.specs.Prelude.{◌≡◌};
@@ -9,23 +11,19 @@ ghost use Rattle.units.specs.Limits.{slop, speculative, huge, coordinate_limit, 
 pub fn is_known(unit: usize) -> bool
     ensures { result ≡ known_unit unit }
 {
-    (unit == 1) | (unit == 10) | (unit == 100) | (unit == 1000)
+    matches!(unit, 1 | 10 | 100 | 1000)
 }
 
 // The unit as a float. What is no unit counts as 1; no limit is asked for there.
 pub fn get_length_units_per_meter(unit: usize) -> f32
     ensures { result ≡ units_per_meter unit }
 {
-    if unit == 10 {
-        return 10.0;
+    match unit {
+        10 => 10.0,
+        100 => 100.0,
+        1000 => 1000.0,
+        _ => 1.0,
     }
-    if unit == 100 {
-        return 100.0;
-    }
-    if unit == 1000 {
-        return 1000.0;
-    }
-    1.0
 }
 
 // The tolerance of a contact: 5 mm.

@@ -19,14 +19,7 @@ pub struct LineDistance {
 pub fn arbitrary_perp(v: Vec3) -> Vec3
     ensures { result ≡ arbitrary_perp_of v }
 {
-    if v.x < -0.5 {
-        return normalize(Vec3 {
-            x: v.y,
-            y: -v.x,
-            z: 0.0,
-        });
-    }
-    if 0.5 < v.x {
+    if v.x < -0.5 || 0.5 < v.x {
         return normalize(Vec3 {
             x: v.y,
             y: -v.x,
@@ -75,18 +68,12 @@ pub fn line_distance(p1: Vec3, d1: Vec3, p2: Vec3, d2: Vec3) -> LineDistance
 fn is_fraction(s: f32) -> bool
     ensures { result ≡ is_fraction_of s }
 {
-    if 0.0 <= s {
-        return s <= 1.0;
-    }
-    false
+    0.0 <= s && s <= 1.0
 }
 
 // Both points lie between the ends of their segments.
 pub fn is_within_segments(r: LineDistance) -> bool
     ensures { result ≡ is_within_segments_of r }
 {
-    if is_fraction(r.s1) {
-        return is_fraction(r.s2);
-    }
-    false
+    is_fraction(r.s1) && is_fraction(r.s2)
 }

@@ -36,8 +36,5 @@ pub fn max_float(a: f32, b: f32) -> f32
 pub fn min_int(a: usize, b: usize) -> usize
     ensures { result ≡ min_int_of a b }
 {
-    if a < b {
-        return a;
-    }
-    b
+    a.min(b)
 }

@@ -63,35 +63,28 @@ fn farther(best: Farthest, i: usize, value: f32) -> Farthest
     best
 }
 
-// The lowest-numbered of the first `count` vertices with the largest d . vertex; their coordinates stand in three lists.
+// The lowest-numbered of the first `count` vertices with the largest d . vertex; their coordinates stand in three lists, as a hull from C has them, which
+// may go on behind the last vertex.
 pub fn find_hull_support_vertex(xs: &[f32], ys: &[f32], zs: &[f32], count: usize, d: Vec3) -> usize
     requires { Lists xs.now ys.now zs.now count }
     ensures { result ≡ support_vertex_of xs.now ys.now zs.now count d }
 {
-    let first = dot(
-        d,
-        Vec3 {
-            x: xs[0],
-            y: ys[0],
-            z: zs[0],
-        },
-    );
+    let first = Vec3 {
+        x: xs[0],
+        y: ys[0],
+        z: zs[0],
+    };
     let mut best = Farthest {
         vertex: 0,
-        value: first,
+        value: dot(d, first),
     };
-    let mut i = 1;
-    while i < count {
-        let value = dot(
-            d,
-            Vec3 {
-                x: xs[i],
-                y: ys[i],
-                z: zs[i],
-            },
-        );
-        best = farther(best, i, value);
-        i += 1;
+    for i in 1..count {
+        let vertex = Vec3 {
+            x: xs[i],
+            y: ys[i],
+            z: zs[i],
+        };
+        best = farther(best, i, dot(d, vertex));
     }
     best.vertex
 }

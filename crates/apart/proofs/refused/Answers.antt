@@ -1,8 +1,7 @@
 -- `refused`: the record of a refusal.
-use mathlib.Core.Path.{refl}
 use Rattle.apart.specs.Question.{refused_question}
 use Rattle.apart.proofs.refused.Goals as goal
 
 pub returns : goal.returns
 unfolding refused_question
-returns c = refl
+returns c = simp c.from.ensures

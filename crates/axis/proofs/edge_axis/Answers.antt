@@ -9,7 +9,7 @@ unfolding edge_of
 returns-then-lead c = let some : c.args.lead.found ≡ true = c.if-lead.true in
     simp (some, c.axis_of.ensures)
 
-pub returns : goal.returns
+pub returns-else-lead : goal.returns-else-lead
 unfolding edge_of
-returns c = let none : c.args.lead.found ≡ false = c.if-lead.false in
+returns-else-lead c = let none : c.args.lead.found ≡ false = c.if-lead.false in
     simp none

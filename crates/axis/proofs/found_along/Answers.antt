@@ -5,4 +5,4 @@ use Rattle.axis.proofs.found_along.Goals as goal
 
 pub returns : goal.returns
 unfolding found_of
-returns c = same_found c.axis_of-face_a.ensures c.axis_of-face_b.ensures c.edge_axis-edge.ensures
+returns c = same_found c.axis_of.ensures c.axis_of-2.ensures c.edge_axis.ensures

@@ -7,9 +7,9 @@ use Rattle.axis.proofs.side_a.Goals as goal
 
 pub search_faces-requires : goal.search_faces-requires
 search_faces-requires c = let p = c.requires in
-    facing_a _ p.0 p.1 p.2 _ (c.transpose-inverse.ensures ∙ ap transpose_of p.3)
+    facing_a _ p.0 p.1 p.2 _ (c.transpose.ensures ∙ ap transpose_of p.3)
 
 pub returns : goal.returns
 unfolding side_of_a
 returns c = let p = c.requires in
-    simp (c.search_faces.ensures, c.transpose-inverse.ensures, p.3)
+    simp (c.search_faces.ensures, c.transpose.ensures, p.3)

@@ -4,5 +4,4 @@ use Rattle.axis_edges.proofs.axis.Goals as goal
 
 pub returns : goal.returns
 unfolding axis_across_of
-returns c = let s = c.before.before.before in
-    simp (s.root-inv.ensures.worked, s.dot_right.ensures, s.between-n.ensures)
+returns c = simp (c.root-inv.ensures.worked, c.dot_right.ensures, c.between-n.ensures)

@@ -12,7 +12,6 @@ returns-then-parallel c = let a = c.args in
 
 pub returns : goal.returns
 unfolding tried_of
-returns c = let e = c.before.before.before in
-    let a = e.args in
-    let wide : parallel_of a.cba a.dba a.a.direction ≡ false = sym e.parallel.ensures ∙ e.if-parallel.false in
+returns c = let a = c.args in
+    let wide : parallel_of a.cba a.dba a.a.direction ≡ false = sym c.parallel.ensures ∙ c.if-parallel.false in
     simp (wide, c.better.ensures, c.separation-apart.ensures, c.axis-normal.ensures)

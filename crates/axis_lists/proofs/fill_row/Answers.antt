@@ -1,17 +1,10 @@
--- `fill_row`: a filling loop.
-use Rattle.axis_lists.proofs.Fills.{begins, goes_on, ends}
+-- `fill_row`: what the closure gives is the definition's own expression.
+use Rattle.axis_lists.proofs.Fills.{told}
 use Rattle.axis_lists.specs.inner.Lists.{vector_in}
 use Rattle.axis_edges.specs.Edges.{dot_right}
-use native.Mathlib.Omega.{arith}
 use borrow.Author.Rules.{rules}
 use Rattle.axis_lists.proofs.fill_row.Goals as goal
 
-pub loop-i-init : goal.loop-i-init
-loop-i-init c = (search rules, begins _ _ _)
-
-pub loop-i-preserved : goal.loop-i-preserved
-unfolding vector_in dot_right
-loop-i-preserved c = (omega arith, goes_on _ c.loop-i.invariant.1 (omega arith) (rw (c.dot_right.ensures, c.vector_in.ensures)))
-
 pub returns : goal.returns
-returns c = ends _ c.loop-i.invariant.0 c.loop-i-test.false c.loop-i.invariant.1
+unfolding vector_in dot_right
+returns c = told _ c.fill.ensures (λ k x h. search rules)

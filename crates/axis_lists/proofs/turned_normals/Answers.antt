@@ -8,12 +8,8 @@ use Rattle.axis_lists.proofs.turned_normals.Goals as goal
 pub returns : goal.returns
 unfolding turned_normal
 returns c =
-    let third = c.before.before in
-    let second = third.before.before.before.before.before in
-    let first = second.before.before.before.before.before in
-    let start = first.before.before.before.before.before in
-    let a = start.args in
-    three (λ f. turned_normal a.r (plane_at a.size a.numbers.now f).normal) a.size.faces _ _ _ _ start.requires.1 start.requires.0.f_high
-    (same_fill first.fill_turned_normals.ensures (λ k. rw first.row.ensures))
-    (same_fill second.fill_turned_normals-2.ensures (λ k. rw second.row-2.ensures))
-    (same_fill third.fill_turned_normals-3.ensures (λ k. rw third.row-3.ensures))
+    let h = c.args.hull.now in
+    three (λ f. turned_normal c.args.r (plane_at h.size h.numbers.now f).normal) h.size.faces _ _ _ _ c.requires.1 c.requires.0.f_high
+    (same_fill c.fill_turned_normals.ensures (λ k. rw c.row.ensures))
+    (same_fill c.fill_turned_normals-2.ensures (λ k. rw c.row-2.ensures))
+    (same_fill c.fill_turned_normals-3.ensures (λ k. rw c.row-3.ensures))

@@ -15,6 +15,12 @@ pub record Filled (g : ℕ → Float) (at n : ℕ) (was is : List Float) : Type 
   pub kept : (k : ℕ) → k < at → get_or is k nan ≡ get_or was k nan
   pub made : (k : ℕ) → k < n → get_or is (at + k) nan ≡ g k
 
+-- the same with what stands there told by a relation: at the place at + k something that r relates to k
+pub record Given (r : ℕ → Float → Type 0) (at n : ℕ) (old new : List Float) : Type 0 where
+  pub long : length new ≡ length old
+  pub kept : (k : ℕ) → k < at → get_or new k nan ≡ get_or old k nan
+  pub made : (k : ℕ) → k < n → r k (get_or new (at + k) nan)
+
 -- the difference of the ends of edge k, in the list of coordinates that starts at from
 abbrev pub difference_at : List Float → List ℕ → HullSize → ℕ → ℕ → Float
 difference_at xs l s from k = get_or xs (from + origin s l (2 * k + 1)) nan ⊖ get_or xs (from + origin s l (2 * k)) nan

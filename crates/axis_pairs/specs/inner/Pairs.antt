@@ -4,13 +4,13 @@ use Rattle.hull_links.specs.declared.HullSize.{HullSize}
 use Rattle.hull_links.specs.Links.{origin, face, NumbersFit}
 use Rattle.hull.specs.Numbers.{plane_at}
 use Rattle.vector.specs.declared.Vec3.{Vec3}
-use Rattle.axis_edges.specs.declared.EdgeB.{EdgeB}
+use Rattle.axis_edges.specs.declared.Edge.{Edge}
 use Rattle.axis_edges.specs.Edges.{difference_of}
 use Rattle.axis_edges.specs.inner.Ready.{EdgesIn}
 use Rattle.axis_lists.specs.inner.Lists.{vector_in, Three, Row}
 
 -- edge j of B, its normals and vertices read from lists that have them in A's frame
-unfoldable pub edge_in : List Float → List Float → HullSize → List ℕ → ℕ → EdgeB
+unfoldable pub edge_in : List Float → List Float → HullSize → List ℕ → ℕ → Edge
 edge_in turned points s l j =
     let from = vector_in points (origin s l (2 * j)) in
     let to = vector_in points (origin s l (2 * j + 1)) in
@@ -26,7 +26,7 @@ pub record Table (turned : List Float) (faces : ℕ) (g : ℕ → Vec3) (n : ℕ
   pub row : (f : ℕ) → f < faces → Row (vector_in turned f) g n (f * n) table
 
 -- both normals of edge b of B along every direction, from the places p and q on
-pub record BothRows (b : EdgeB) (g : ℕ → Vec3) (n p q : ℕ) (table : List Float) : Type 0 where
+pub record BothRows (b : Edge) (g : ℕ → Vec3) (n p q : ℕ) (table : List Float) : Type 0 where
   pub row0 : Row b.normal0 g n p table
   pub row1 : Row b.normal1 g n q table
 

@@ -1,25 +1,13 @@
 -- Where nothing is marked nothing passes; else those that are marked are those that pass.
 use mathlib.Core.Path.{◌∙◌}
 use native.Mathlib.Omega.{arith}
-use Rattle.axis_row.proofs.Marking.{small, told, none_marked, same_passing}
+use Rattle.axis_row.proofs.Marking.{told, none_marked, same_passing}
 use Rattle.axis_row.proofs.sift.Goals as goal
-
-pub mark-requires : goal.mark-requires
-mark-requires c = let p = c.requires in (p.0.few, p.0.room0, p.0.room1, p.2)
 
 pub returns-then-mark-eq0 : goal.returns-then-mark-eq0
 returns-then-mark-eq0 c =
     let p = c.requires in
     (omega arith, p.1, c.mark.ensures.long, none_marked _ _ _ _ _ c.mark.ensures p.0.enough c.if-mark-eq0.true)
-
-pub gather-requires : goal.gather-requires
-gather-requires c =
-    let p = c.requires in (
-      omega (arith, p.0.enough, p.0.few),
-      c.mark.ensures.long,
-      p.1,
-      λ k h. small _ _ _ _ c.mark.ensures k (omega (arith, h, p.0.enough)),
-    )
 
 pub returns : goal.returns
 returns c =

@@ -2,11 +2,7 @@
 use Rattle.axis_row.proofs.Sifting.{Sifted}
 use Rattle.axis_row.specs.inner.Sift.{fails_later}
 use lib.ListN.{take}
-use Prim.Native.Nat.{◌≤◌, ◌-◌}
 use Rattle.axis_row.proofs.sift_again.Given as goal
 
-abbrev pub invariant-loop-k : goal.invariant-loop-k
-invariant-loop-k l = (l.k ≤ l.m) × Sifted (fails_later l.table l.p l.along l.size l.links) (take l.k l.list) l.k l.left l.out
-
-abbrev pub decreases-loop-k : goal.decreases-loop-k
-decreases-loop-k l = l.m - l.k
+abbrev pub invariant-loop-edge : goal.invariant-loop-edge
+invariant-loop-edge l = Sifted (fails_later l.table l.p l.along l.hull.size l.hull.links.now) (take l.edge-index l.list) l.edge-index l.left l.out

@@ -6,18 +6,17 @@ use Rattle.hull_links.specs.declared.HullSize.{HullSize}
 use Rattle.hull_links.specs.Links.{NumbersFit}
 use Rattle.hull.specs.Numbers.{plane_at}
 use Rattle.axis_best.specs.declared.Lead.{Lead}
-use Rattle.axis_edges.specs.declared.EdgeA.{EdgeA}
-use Rattle.axis_edges.specs.declared.EdgeB.{EdgeB}
+use Rattle.axis_edges.specs.declared.Edge.{Edge}
 use Rattle.axis_edges.specs.Edges.{edge_of_a, tried_of}
 use Rattle.axis_edges.specs.inner.Ready.{EdgesIn}
 use Rattle.axis_lists.specs.inner.Lists.{Three, Row}
 
 -- edge i of A, which has passed, against edge j of B; the dots of B's two normals stand in the table from p and from q on
-unfoldable pub tried_at : ℕ → List Float → ℕ → ℕ → (ℕ → EdgeA) → EdgeB → ℕ → ℕ → Lead → Lead
+unfoldable pub tried_at : ℕ → List Float → ℕ → ℕ → (ℕ → Edge) → Edge → ℕ → ℕ → Lead → Lead
 tried_at unit table p q a b j i lead = tried_of unit (get_or table (p + i) nan) (get_or table (q + i) nan) (a i) b i j lead
 
 -- what the scan of one edge of B asks for: of hull A, of the lists, and of the table
-pub record RowReady (s : HullSize) (n : List Float) (l : List ℕ) (count : ℕ) (normals : List Float) (b : EdgeB) (j : ℕ) (start : Lead)
+pub record RowReady (s : HullSize) (n : List Float) (l : List ℕ) (count : ℕ) (normals : List Float) (b : Edge) (j : ℕ) (start : Lead)
     (table : List Float) (p q : ℕ) : Type 0 where
   pub fit : NumbersFit s n
   pub edges_in : EdgesIn s l

@@ -6,7 +6,8 @@ use Rattle.clip.proofs.build_polygon.Given as goal
 
 abbrev pub invariant-loop-e : goal.invariant-loop-e
 invariant-loop-e l =
-    Building l.size l.links l.start (corner_of l.size l.numbers l.links l.matrix l.p l.reference) l.initial.places l.initial.tags l.places l.tags l.e l.n
+    Building l.hull.size l.hull.links.now l.start (corner_of l.hull.size l.hull.numbers.now l.hull.links.now l.matrix l.p l.reference)
+    l.initial.corners.numbers l.initial.corners.tags l.corners.numbers l.corners.tags l.e l.n
 
 abbrev pub decreases-loop-e : goal.decreases-loop-e
-decreases-loop-e l = length (left_of l.size l.links l.start l.e)
+decreases-loop-e l = length (left_of l.hull.size l.hull.links.now l.start l.e)

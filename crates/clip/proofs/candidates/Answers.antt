@@ -6,7 +6,7 @@ use Rattle.clip.proofs.candidates.Goals as goal
 
 pub clip_to_face-requires : goal.clip_to_face-requires
 clip_to_face-requires c = let p = c.requires in
-    (p.0, p.1, p.2, below _ _ _ c.find_incident_face-incident.ensures (incident_in _ _ _ p.1 _ _ p.3), p.4)
+    (p.0, p.1, p.2, below _ _ _ c.find_incident_face-incident.ensures (incident_in _ _ _ p.1 _ _ p.3))
 
 pub returns : goal.returns
 unfolding candidates_of

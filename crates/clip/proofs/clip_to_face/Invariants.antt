@@ -8,13 +8,14 @@ use Rattle.clip.proofs.Batches.{Ahead}
 use Rattle.clip.proofs.Rings.{left_of, Round}
 use Rattle.clip.proofs.clip_to_face.Given as goal
 
-abbrev pub invariant-loop-size_a : goal.invariant-loop-size_a
-invariant-loop-size_a l =
-    Round l.size_a l.numbers_a l.links_a l.face l.start (cut_round l.size_a l.numbers_a l.links_a l.face (face_ring l.size_a l.links_a l.face)
-    (corners_in l.initial.places l.initial.tags 0 l.initial.n))
-    l.places l.tags l.p l.n l.e
-    × Ahead (side_plane_of l.size_a l.numbers_a l.links_a l.reference.normal) (next l.size_a l.links_a) l.start l.sides l.k l.e
+abbrev pub invariant-loop-reference : goal.invariant-loop-reference
+invariant-loop-reference l =
+    Round l.a.size l.a.numbers.now l.a.links.now l.face l.start
+    (cut_round l.a.size l.a.numbers.now l.a.links.now l.face (face_ring l.a.size l.a.links.now l.face)
+    (corners_in l.initial.corners.numbers l.initial.corners.tags 0 l.initial.n))
+    l.corners.numbers l.corners.tags l.p l.n l.e
+    × Ahead (side_plane_of l.a.size l.a.numbers.now l.a.links.now l.reference.normal) (next l.a.size l.a.links.now) l.start l.sides l.k l.e
 
-abbrev pub decreases-loop-size_a : goal.decreases-loop-size_a
-decreases-loop-size_a l =
-    length (left_of l.size_a l.links_a l.start l.e)
+abbrev pub decreases-loop-reference : goal.decreases-loop-reference
+decreases-loop-reference l =
+    length (left_of l.a.size l.a.links.now l.start l.e)

@@ -1,28 +1,16 @@
--- Inner: the sides of a face in batches of sixteen planes: plane k is four numbers, from place 4 k on. Definitions only.
-use Rattle.std.specs.Prelude.{ℕ, zero, suc, ◌+◌, ◌*◌, ◌≡◌, cond, List, [], ◌∷◌, map, get_or, ltb, Float}
-use Rattle.std.specs.Float.{nan}
+-- Inner: the sides of a face in batches of sixteen planes. Definitions only.
+use Rattle.std.specs.Prelude.{ℕ, zero, suc, ◌+◌, ◌≡◌, cond, List, [], ◌∷◌, map, set, ltb, Float}
 use Rattle.vector.specs.declared.Vec3.{Vec3}
 use Rattle.vector.specs.declared.Plane.{Plane}
 use Rattle.hull_links.specs.declared.HullSize.{HullSize}
 use Rattle.hull_links.specs.Walks.{until}
 use Rattle.hull_links.specs.Links.{next}
-use Rattle.clip_corners.specs.Places.{four}
 use Rattle.clip.specs.Candidates.{side_plane_of}
 
--- plane k, and plane k becomes p
-unfoldable pub plane_in : List Float → ℕ → Plane
-plane_in n k = record {
-  normal = record { x = get_or n (4 * k) nan; y = get_or n (4 * k + 1) nan; z = get_or n (4 * k + 2) nan };
-  offset = get_or n (4 * k + 3) nan;
-}
-
-unfoldable pub plane_with : List Float → ℕ → Plane → List Float
-plane_with n k p = four n (4 * k) p.normal.x p.normal.y p.normal.z p.offset
-
 -- these planes are put from plane k on
-unfoldable pub planes_with : List Float → ℕ → List Plane → List Float
+unfoldable pub planes_with : List Plane → ℕ → List Plane → List Plane
 planes_with n k [] = n
-planes_with n k (p ∷ ps) = planes_with (plane_with n k p) (k + 1) ps
+planes_with n k (p ∷ ps) = planes_with (set n k p) (k + 1) ps
 
 -- e and what comes behind it until start comes, at most m of them
 unfoldable pub at_most : ℕ → (ℕ → ℕ) → ℕ → ℕ → List ℕ
@@ -34,6 +22,6 @@ unfoldable pub sides_from : HullSize → List Float → List ℕ → Vec3 → �
 sides_from s n l normal start e = map (side_plane_of s n l normal) (at_most 16 (next s l) start e)
 
 -- behind plane k comes plane r: the next, and behind the sixteenth the first of a new batch
-pub record Followed (n : List Float) (k : ℕ) (batch : List Plane) (n' : List Float) (r : ℕ) : Type 0 where
+pub record Followed (n : List Plane) (k : ℕ) (batch : List Plane) (n' : List Plane) (r : ℕ) : Type 0 where
   pub number : r ≡ cond (ltb k 15) (k + 1) 0
   pub planes : n' ≡ cond (ltb k 15) n (planes_with n 0 batch)

@@ -1,10 +1,6 @@
 -- The loop keeps `Keeping`: the corners so far are kept, so those that are left decide.
-use Prim.Native.Nat.{◌-◌}
 use Rattle.clip_cut.proofs.Keeping.{Keeping}
 use Rattle.clip_cut.proofs.keeps_all.Given as goal
 
 abbrev pub invariant-loop-i : goal.invariant-loop-i
-invariant-loop-i l = Keeping l.numbers l.p l.n l.plane l.i
-
-abbrev pub decreases-loop-i : goal.decreases-loop-i
-decreases-loop-i l = l.n - l.i
+invariant-loop-i l = Keeping l.corners.numbers l.p l.n l.plane l.i

@@ -5,10 +5,6 @@ use Rattle.collide.proofs.Steps.{after_retried}
 use Rattle.collide.proofs.worked.Goals as goal
 
 pub returns : goal.returns
-returns c = let a = c.args in
-    let done = c.after_cached.ensures in
-    let after = after_cached a.size_a a.numbers_a.now a.links_a.now a.size_b a.numbers_b.now a.links_b.now a.transform a.cache in (
-      done.0 ∙ ap after c.retried-cached.ensures.0
-          ∙ after_retried a.size_a a.numbers_a.now a.links_a.now a.size_b a.numbers_b.now a.links_b.now a.transform a.cache,
-      done.1,
-    )
+returns c = let g = c.args in let a = g.a.now in let b = g.b.now in
+    c.after_cached.ensures ∙ ap (after_cached a.size a.numbers.now a.links.now b.size b.numbers.now b.links.now g.transform g.cache) c.retried-cached.ensures
+    ∙ after_retried a.size a.numbers.now a.links.now b.size b.numbers.now b.links.now g.transform g.cache

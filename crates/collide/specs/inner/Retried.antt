@@ -3,8 +3,7 @@ use Rattle.std.specs.Prelude.{ℕ, cond, List, eqb, Float}
 use Rattle.vector.specs.declared.Transform.{Transform}
 use Rattle.manifold.specs.declared.SatCache.{SatCache}
 use Rattle.hull_links.specs.declared.HullSize.{HullSize}
-use Rattle.collide_outcome.specs.declared.Cached.{Cached}
-use Rattle.collide_outcome.specs.Served.{no_hit}
+use Rattle.collide_outcome.specs.Served.{Cached, no_hit}
 use Rattle.collide_cached.specs.Again.{cached_face_a_of, cached_face_b_of, cached_edge_of}
 
 -- by the type, where it names an axis; else no hit

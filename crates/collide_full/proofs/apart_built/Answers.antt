@@ -5,4 +5,4 @@ use Rattle.collide_full.proofs.apart_built.Goals as goal
 
 pub returns : goal.returns
 unfolding apart_built cache_of
-returns c = simp (c.bits_of.ensures, c.empty_contact-contact.ensures)
+returns c = simp (c.from.ensures, c.bits_of.ensures)

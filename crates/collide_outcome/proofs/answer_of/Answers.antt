@@ -1,15 +1,18 @@
--- `answer_of`: the status picks the definition's case.
+-- `answer_of`: what was built, or the refusal, picks the definition's case.
 use Prim.Native.Nat.{ℕ}
-use mathlib.Core.Path.{ap, ◌∙◌}
-use Rattle.collide_outcome.specs.Answers.{accepted}
-use Rattle.collide_outcome.proofs.Cases.{built_refused, built_accepted}
+use mathlib.Core.Path.{ap, ap₂, ◌∙◌}
+use Rattle.manifold.specs.declared.Contact.{Contact}
+use Rattle.collide_outcome.specs.Answers.{accepted, refused_of}
+use Rattle.collide_outcome.proofs.Told.{contact_is, accepted_built, refused_built}
 use Rattle.collide_outcome.proofs.answer_of.Goals as goal
 
-pub returns-then-built-ne0 : goal.returns-then-built-ne0
-returns-then-built-ne0 c = let a = c.args in
-    c.refused.ensures ∙ built_refused a.cache a.built c.if-built-ne0.true
+pub returns-in-Ok : goal.returns-in-Ok
+returns-in-Ok c =
+    let contact = contact_is c.in-Ok.build.contact _ c.unwrap_or_else-contact.ensures in
+    rw c.in-Ok.is (c.accepted_with.ensures
+    ∙ ap₂ (λ (mark : ℕ) (contact : Contact). accepted mark contact c.in-Ok.build.cache) c.retired_mark.ensures contact
+    ∙ accepted_built c.args.cache c.in-Ok.build)
 
-pub returns : goal.returns
-returns c = let a = c.args in
-    c.accepted_with.ensures ∙ ap (λ (mark : ℕ). accepted mark a.built.contact a.built.cache) c.retired_mark.ensures
-    ∙ built_accepted a.cache a.built c.if-built-ne0.false
+pub returns-in-Err : goal.returns-in-Err
+returns-in-Err c =
+    rw c.in-Err.is (c.refused.ensures ∙ ap (λ (n : ℕ). refused_of n c.args.cache) c.from.ensures ∙ refused_built c.args.cache c.in-Err.refusal)

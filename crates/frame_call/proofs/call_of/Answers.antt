@@ -1,6 +1,5 @@
 -- Either pair of rooms holds what is taken: the small one by the tests, the large one for hulls of any size.
 use mathlib.Core.Path.{sym, ◌∙◌}
-use native.Mathlib.Omega.{arith}
 use borrow.Author.Tests.{leb-true}
 use Rattle.hull_links.specs.Links.{number_count}
 use Rattle.frame_call.proofs.Calls.{room_holds}
@@ -10,12 +9,7 @@ pub call_in-requires : goal.call_in-requires
 call_in-requires c =
     let small_a = leb-true (number_count c.args.size_a) 256 (sym c.fits_small.ensures ∙ c.if-fits_small.true) in
     let small_b = leb-true (number_count c.args.size_b) 256 (sym c.fits_small-then-fits_small.ensures ∙ c.if-fits_small-2.true) in
-    let long_a = c.small_room-numbers_a.ensures in
-    let long_b = c.small_room-numbers_b.ensures in
-    (c.requires, room_holds _ _ _ (λ most. omega (arith, small_a, long_a)), room_holds _ _ _ (λ most. omega (arith, small_b, long_b)))
+    (c.requires, room_holds _ _ _ (λ most. small_a), room_holds _ _ _ (λ most. small_b))
 
 pub call_in-requires-2 : goal.call_in-requires-2
-call_in-requires-2 c =
-    let long_a = c.large_room-numbers_a.ensures in
-    let long_b = c.large_room-numbers_b.ensures in
-    (c.requires, room_holds _ _ _ (λ most. omega (arith, most, long_a)), room_holds _ _ _ (λ most. omega (arith, most, long_b)))
+call_in-requires-2 c = (c.requires, room_holds _ _ _ (λ most. most), room_holds _ _ _ (λ most. most))

@@ -11,4 +11,4 @@ returns c =
     let places = mark.before.before.before.before in
     let points = places.before.before.before.before in
     let head = points.before.before.before.before.before in
-    then (then (then head.put_head.ensures points.put_points.ensures refl) places.put_places.ensures refl) mark.write_byte.ensures refl
+    then (then (then head.put_head.ensures points.put_points.ensures refl) places.put_places.ensures refl) mark.write.ensures refl

@@ -1,9 +1,12 @@
 -- A numeral or a letter.
-use Rattle.frame_hex.proofs.Digits.{numeral_of, letter_of}
+use native.Mathlib.Omega.{arith}
+use Rattle.frame_hex.specs.Hex.{digit_of}
 use Rattle.frame_hex.proofs.digit_of.Goals as goal
 
 pub returns-then-v-lt10 : goal.returns-then-v-lt10
-returns-then-v-lt10 c = numeral_of _ c.if-v-lt10.true
+unfolding digit_of
+returns-then-v-lt10 c = grind arith
 
-pub returns : goal.returns
-returns c = letter_of _ c.if-v-lt10.false
+pub returns-else-v-lt10 : goal.returns-else-v-lt10
+unfolding digit_of
+returns-else-v-lt10 c = grind arith

@@ -1,12 +1,25 @@
 -- Digits case by case.
-use Rattle.frame_hex.proofs.Digits.{up_to_numerals, up_to_letters, above_letters}
+use native.Mathlib.Omega.{arith}
+use Rattle.hull_links.specs.Tests.{◌&◌, ◌or◌}
+use Rattle.frame_hex.specs.Hex.{hex_digit}
 use Rattle.frame_hex.proofs.hex_digit.Goals as goal
 
-pub returns-then-c-le57 : goal.returns-then-c-le57
-returns-then-c-le57 c = up_to_numerals _ c.if-c-le57.true
+pub returns-in-48-to-57 : goal.returns-in-48-to-57
+unfolding hex_digit ◌&◌ ◌or◌
+returns-in-48-to-57 c = grind arith
 
-pub returns-then-c-le102 : goal.returns-then-c-le102
-returns-then-c-le102 c = up_to_letters _ c.if-c-le57.false c.if-c-le102.true
+pub returns-in-48-to-57-2 : goal.returns-in-48-to-57-2
+unfolding hex_digit ◌&◌ ◌or◌
+returns-in-48-to-57-2 c = grind arith
 
-pub returns : goal.returns
-returns c = above_letters _ c.if-c-le102.false
+pub returns-in_default : goal.returns-in_default
+unfolding hex_digit ◌&◌ ◌or◌
+returns-in_default c = grind arith
+
+pub returns-in_default-2 : goal.returns-in_default-2
+unfolding hex_digit ◌&◌ ◌or◌
+returns-in_default-2 c = grind arith
+
+pub returns-in_default-3 : goal.returns-in_default-3
+unfolding hex_digit ◌&◌ ◌or◌
+returns-in_default-3 c = grind arith

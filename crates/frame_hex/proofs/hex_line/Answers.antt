@@ -1,24 +1,20 @@
--- The note is 0 as long as all characters so far are digits.
+-- All characters so far are digits, or one was none.
 use borrow.Author.Rules.{rules}
+use Rattle.hull_links.proofs.Tests.{all_none, all_and}
 use Rattle.frame_hex.specs.Hex.{hex_at}
-use Rattle.frame_hex.proofs.Digits.{note_none, note_more, line_bad, line_digits}
+use Rattle.frame_hex.proofs.Digits.{line_digits, line_bad}
 use Rattle.frame_hex.proofs.hex_line.Goals as goal
+use mathlib.Core.Path.{sym}
 
-pub loop-i-init : goal.loop-i-init
-loop-i-init c = (search rules, note_none _)
+pub loop-c-init : goal.loop-c-init
+loop-c-init c = sym (all_none _)
 
-pub loop-i-preserved : goal.loop-i-preserved
+pub loop-c-preserved : goal.loop-c-preserved
 unfolding hex_at
-loop-i-preserved c = (
-  search rules,
-  note_more (hex_at c.args.line.now) c.loop-i.i
-      c.loop-i.invariant.1 c.noted-bad.ensures,
-)
+loop-c-preserved c = all_and (hex_at c.args.line.now) c.loop-c.c-index _ _ c.loop-c.invariant c.hex_digit-digits.ensures
 
-pub returns-then-bad-ne0 : goal.returns-then-bad-ne0
-returns-then-bad-ne0 c = line_bad c.args.line.now c.loop-i.invariant.1 c.loop-i.invariant.0
-    (search rules) c.if-bad-ne0.true
+pub returns-then-digits : goal.returns-then-digits
+returns-then-digits c = line_digits c.args.line.now c.loop-c.invariant (search rules) (search rules) c.if-digits.true
 
-pub returns : goal.returns
-returns c = line_digits c.args.line.now c.loop-i.invariant.1 c.loop-i.invariant.0
-    (search rules) c.if-bad-ne0.false
+pub returns-else-digits : goal.returns-else-digits
+returns-else-digits c = line_bad c.args.line.now c.loop-c.invariant (search rules) (search rules) c.if-digits.false

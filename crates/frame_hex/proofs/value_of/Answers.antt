@@ -1,16 +1,21 @@
 -- A numeral or a letter.
-use borrow.Author.Rules.{rules}
-use Rattle.frame_hex.proofs.Digits.{not_below, letter_low, numeral_value, letter_value}
+use native.Mathlib.Omega.{arith}
+use Rattle.hull_links.specs.Tests.{◌&◌, ◌or◌}
+use Rattle.frame_hex.specs.Hex.{hex_digit, digit_value_of}
 use Rattle.frame_hex.proofs.value_of.Goals as goal
 
 pub overflow_sub-result : goal.overflow_sub-result
-overflow_sub-result c = not_below _ c.requires
+unfolding hex_digit ◌&◌ ◌or◌
+overflow_sub-result c = grind arith
+
+pub overflow_sub-result-else-c-le57 : goal.overflow_sub-result-else-c-le57
+unfolding hex_digit ◌&◌ ◌or◌
+overflow_sub-result-else-c-le57 c = grind arith
 
 pub returns-then-c-le57 : goal.returns-then-c-le57
-returns-then-c-le57 c = numeral_value _ c.requires c.if-c-le57.true
+unfolding hex_digit digit_value_of ◌&◌ ◌or◌
+returns-then-c-le57 c = grind arith
 
-pub overflow_sub-result-2 : goal.overflow_sub-result-2
-overflow_sub-result-2 c = let low = letter_low _ c.requires c.if-c-le57.false in search rules
-
-pub returns : goal.returns
-returns c = letter_value _ c.requires c.if-c-le57.false
+pub returns-else-c-le57 : goal.returns-else-c-le57
+unfolding hex_digit digit_value_of ◌&◌ ◌or◌
+returns-else-c-le57 c = grind arith

@@ -5,4 +5,4 @@ use Rattle.hull.proofs.support_vertex.Goals as goal
 pub returns : goal.returns
 returns c =
     let a = c.args in
-    lists_are a.size a.numbers.now a.d _ c.padded-p.ensures c.find_hull_support_vertex.ensures
+    lists_are a.hull.now.size a.hull.now.numbers.now a.d _ c.padded-p.ensures c.find_hull_support_vertex.ensures

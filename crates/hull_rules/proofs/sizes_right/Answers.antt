@@ -28,8 +28,8 @@ returns-then-size-lt4-2 c = sym (unfit _ _ _ (λ r w. omega arith))
 pub returns-then-size-gt128-2 : goal.returns-then-size-gt128-2
 returns-then-size-gt128-2 c = sym (unfit _ _ _ (λ r w. omega arith))
 
-pub returns-then-links-size : goal.returns-then-links-size
-returns-then-links-size c = sym (unfit _ _ _ (λ r w. omega arith))
+pub returns-then-hull-size : goal.returns-then-hull-size
+returns-then-hull-size c = sym (unfit _ _ _ (λ r w. omega arith))
 
 pub returns : goal.returns
 returns c =

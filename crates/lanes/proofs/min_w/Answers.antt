@@ -4,4 +4,4 @@ use Rattle.lanes.proofs.min_w.Goals as goal
 
 pub returns : goal.returns
 unfolding least_w_of
-returns c = simp (c.least-4.ensures, c.least-3.ensures, c.least-2.ensures, c.least.ensures)
+returns c = simp (c.least-4.ensures.least, c.least-3.ensures.least, c.least-2.ensures.least, c.least.ensures.least)

@@ -7,6 +7,6 @@ pub returns-then-h-n : goal.returns-then-h-n
 unfolding hull_rule
 returns-then-h-n c = simp (lt-ltb _ _ c.if-h-n.true)
 
-pub returns : goal.returns
+pub returns-else-h-n : goal.returns-else-h-n
 unfolding hull_rule
-returns c = simp (le-ltb _ _ c.if-h-n.false)
+returns-else-h-n c = simp (le-ltb _ _ c.if-h-n.false)

@@ -6,17 +6,9 @@ use Rattle.step.proofs.answer_at.Goals as goal
 
 pub pair_answer-requires : goal.pair_answer-requires
 pair_answer-requires c = (
-  c.rule_of-rule_a.ensures ∙ rules_same _ _ _ _ _
-      c.requires.0,
-  c.rule_of-rule_b.ensures ∙ rules_same _ _ _ _ _
-      c.requires.0,
-  c.requires.3,
+  c.rule_of-rule_a.ensures ∙ rules_same _ _ _ _ _ c.requires.0,
+  c.rule_of-rule_b.ensures ∙ rules_same _ _ _ _ _ c.requires.0,
 )
 
 pub returns : goal.returns
-returns c = (
-  at_pair _ _ _ _ _ _ _ c.from_word-a.ensures.0 c.from_word-b.ensures.0
-      c.transform_at-transform.ensures
-      c.pair_answer.ensures.0,
-  c.pair_answer.ensures.1,
-)
+returns c = at_pair _ _ _ _ _ _ _ c.from_word-a.ensures.0 c.from_word-b.ensures.0 c.transform_at-transform.ensures c.pair_answer.ensures

@@ -5,4 +5,4 @@ use Rattle.step.proofs.put_record.Goals as goal
 
 pub returns : goal.returns
 returns c = then (then c.put_status.ensures
-    c.write_byte.ensures refl) c.put_names.ensures refl
+    c.write.ensures refl) c.put_names.ensures refl

@@ -11,11 +11,8 @@ returns-then-is_nothing c = (
       c.line_answer.ensures,
 )
 
-pub answer_held-requires : goal.answer_held-requires
-answer_held-requires c = (c.hold-q.ensures.0, omega arith)
-
 pub returns : goal.returns
 returns c = (
   c.answer_held.ensures.0,
-  λ xs h. c.answer_held.ensures.1 _ (c.hold-q.ensures.1 xs h),
+  λ xs h. c.answer_held.ensures.1 _ (c.hold-held.ensures.1 xs h),
 )

@@ -5,9 +5,6 @@ use Rattle.stream_pending.proofs.Scans.{to_end_most}
 use Rattle.stream.proofs.Tells.{tells_line, tells_rest}
 use Rattle.stream.proofs.tell_next.Goals as goal
 
-pub slice_bounds-tell_line-end : goal.slice_bounds-tell_line-end
-slice_bounds-tell_line-end c = simp length-take (omega arith)
-
 pub returns-then-n-rest : goal.returns-then-n-rest
 returns-then-n-rest c = (
   omega arith,
@@ -23,7 +20,7 @@ returns c = (
   omega arith,
   omega (arith, to_end_most c.args.rest.now),
   omega arith,
-  c.hold-q.ensures.0,
+  c.hold.ensures.0,
   λ xs h. tells_rest c.line_end-n.ensures
-      c.if-n-rest.false (c.hold-q.ensures.1 xs h),
+      c.if-n-rest.false (c.hold.ensures.1 xs h),
 )

@@ -1,20 +1,21 @@
--- `get_length_units_per_meter`: the first test that holds answers, as in the definition.
-use borrow.Author.Tests.{ne_eqb}
+-- `get_length_units_per_meter`: the arm picks the definition's case.
+use Rattle.std.proofs.Common.{arith}
+use Rattle.std.proofs.lemmas.Grind.{common_steps}
 use Rattle.units.specs.Units.{units_per_meter}
 use Rattle.units.proofs.get_length_units_per_meter.Goals as goal
 
-pub returns-then-unit-eq10 : goal.returns-then-unit-eq10
+pub returns-in-10 : goal.returns-in-10
 unfolding units_per_meter
-returns-then-unit-eq10 c = simp c.if-unit-eq10.true
+returns-in-10 c = simp c.in-10.is
 
-pub returns-then-unit-eq100 : goal.returns-then-unit-eq100
+pub returns-in-100 : goal.returns-in-100
 unfolding units_per_meter
-returns-then-unit-eq100 c = simp c.if-unit-eq100.true
+returns-in-100 c = simp c.in-100.is
 
-pub returns-then-unit-eq1000 : goal.returns-then-unit-eq1000
+pub returns-in-1000 : goal.returns-in-1000
 unfolding units_per_meter
-returns-then-unit-eq1000 c = simp c.if-unit-eq1000.true
+returns-in-1000 c = simp c.in-1000.is
 
-pub returns : goal.returns
+pub returns-in_default : goal.returns-in_default
 unfolding units_per_meter
-returns c = simp (ne_eqb _ 10 c.if-unit-eq10.false, ne_eqb _ 100 c.if-unit-eq100.false, ne_eqb _ 1000 c.if-unit-eq1000.false)
+returns-in_default c = grind (arith, common_steps)

@@ -10,11 +10,11 @@ embed_index_w-requires c =
     let R = p.0 in (
       record {
         on_x = value_finite R _ _ _ (omega (arith, p.1)) c.vertex_at.ensures
-            c.value-x.ensures;
+            c.value.ensures;
         on_y = value_finite R _ _ _ (omega (arith, p.1)) c.vertex_at-2.ensures
-            c.value-y.ensures;
-        on_z = value_finite R _ _ _ (omega (arith, p.1)) c.vertex_at-3.ensures c.value-z.ensures;
-        on_w = value_finite R _ _ _ p.1 c.vertex_at-4.ensures c.value-w.ensures;
+            c.value-2.ensures;
+        on_z = value_finite R _ _ _ (omega (arith, p.1)) c.vertex_at-3.ensures c.value-3.ensures;
+        on_w = value_finite R _ _ _ p.1 c.vertex_at-4.ensures c.value-4.ensures;
       },
       omega (arith, p.1, R.fit.v_high),
     )
@@ -23,12 +23,12 @@ pub returns : goal.returns
 unfolding group_of
 returns c = simp (
   c.embed_index_w.ensures,
-  c.value-w.ensures,
+  c.value-4.ensures,
   c.vertex_at-4.ensures,
-  c.value-z.ensures,
+  c.value-3.ensures,
   c.vertex_at-3.ensures,
-  c.value-y.ensures,
+  c.value-2.ensures,
   c.vertex_at-2.ensures,
-  c.value-x.ensures,
+  c.value.ensures,
   c.vertex_at.ensures,
 )

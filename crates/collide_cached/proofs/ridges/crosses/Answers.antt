@@ -1,4 +1,5 @@
 -- `crosses`: the tests of signs, then the parallel test.
+use mathlib.Core.Path.{◌∙◌}
 use Rattle.collide_cached.specs.Ridges.{crosses_of}
 use Rattle.collide_cached.proofs.ridges.crosses.Goals as goal
 
@@ -17,9 +18,9 @@ returns-then-cross_over c = simp (
   c.dot-cba.ensures,
 )
 
-pub returns : goal.returns
+pub returns-else-cross_over : goal.returns-else-cross_over
 unfolding crosses_of
-returns c = simp (simp (
+returns-else-cross_over c = c.if-cross_over.false ∙ simp (simp (
   c.cross_over.ensures,
   c.dot-bdc.ensures,
   c.dot-adc.ensures,

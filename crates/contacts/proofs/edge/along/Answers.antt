@@ -18,6 +18,7 @@ returns c = let within : is_within_segments_of c.args.nearest ≡ true =
     simp (
       within,
       c.touched.ensures,
+      c.from.ensures,
       c.one_point.ensures,
       c.point_of.ensures,
       c.make_feature_pair.ensures,

@@ -31,15 +31,13 @@ vertex_at-requires-2 c = let p = c.requires in
 
 pub returns : goal.returns
 returns c =
-    let a = c.args in
-    let n_a = a.numbers_a.now in
-    let l_a = a.links_a.now in
-    let n_b = a.numbers_b.now in
-    let l_b = a.links_b.now in
-    of_ends a.size_a n_a l_a a.size_b n_b l_b a.transform a.normal a.edge_a a.edge_b _ _ _ _ _ _ _ _ _ _
-    (near_end a.size_a n_a l_a a.edge_a _ _ c.origin_of.ensures c.vertex_at-p_a.ensures)
-    (far_end a.size_a n_a l_a a.edge_a _ _ _ c.twin_of-twin_a.ensures c.origin_of-2.ensures c.vertex_at-q_a.ensures)
-    (near_end a.size_b n_b l_b a.edge_b _ _ c.origin_of-3.ensures c.vertex_at.ensures)
-    (far_end a.size_b n_b l_b a.edge_b _ _ _ c.twin_of-twin_b.ensures c.origin_of-4.ensures c.vertex_at-2.ensures)
+    let g = c.args in
+    let a = g.a.now in
+    let b = g.b.now in
+    of_ends a.size a.numbers.now a.links.now b.size b.numbers.now b.links.now g.transform g.normal g.edge_a g.edge_b _ _ _ _ _ _ _ _ _ _
+    (near_end a.size a.numbers.now a.links.now g.edge_a _ _ c.origin_of.ensures c.vertex_at-p_a.ensures)
+    (far_end a.size a.numbers.now a.links.now g.edge_a _ _ _ c.twin_of-twin_a.ensures c.origin_of-2.ensures c.vertex_at-q_a.ensures)
+    (near_end b.size b.numbers.now b.links.now g.edge_b _ _ c.origin_of-3.ensures c.vertex_at.ensures)
+    (far_end b.size b.numbers.now b.links.now g.edge_b _ _ _ c.twin_of-twin_b.ensures c.origin_of-4.ensures c.vertex_at-2.ensures)
     c.transform_point-p_b.ensures c.transform_point-q_b.ensures c.sub.ensures
     c.sub-2.ensures c.line_distance-nearest.ensures c.along.ensures

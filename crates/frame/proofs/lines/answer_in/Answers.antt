@@ -4,9 +4,6 @@ use Rattle.frame.specs.Frames.{frame_answer}
 use Rattle.frame.proofs.Puts.{answers_same, bytes_first, bytes_long}
 use Rattle.frame.proofs.lines.answer_in.Goals as goal
 
-pub slice_bounds-frame_answer-end-2 : goal.slice_bounds-frame_answer-end-2
-slice_bounds-frame_answer-end-2 c = bytes_long c.args.line.now c.take_bytes.ensures c.requires.1
-
 pub returns : goal.returns
 returns c = answers_same c.frame_answer.ensures
     (ap frame_answer (bytes_first c.args.line.now c.take_bytes.ensures c.requires.1))

@@ -1,22 +1,16 @@
 -- Too long, no hexadecimal, or a frame.
-use mathlib.Core.Path.{sym, ◌∙◌}
+use mathlib.Core.Path.{refl, sym, ◌∙◌}
 use Rattle.frame.proofs.Puts.{answers_same, line_over, line_no_hex, line_framed}
-use borrow.Author.Rules.{rules}
 use Rattle.frame.proofs.lines.answered.Goals as goal
 
 pub returns-then-line-gt-MOST_CHARACTERS : goal.returns-then-line-gt-MOST_CHARACTERS
-returns-then-line-gt-MOST_CHARACTERS c = answers_same c.put_fault.ensures (line_over _ c.if-line-gt-MOST_CHARACTERS.true)
+returns-then-line-gt-MOST_CHARACTERS c = (sym (line_over _ c.if-line-gt-MOST_CHARACTERS.true), refl)
 
 pub returns-then-not-hex_line : goal.returns-then-not-hex_line
-returns-then-not-hex_line c = answers_same c.put_fault-then-not-hex_line.ensures (line_no_hex _ c.if-line-gt-MOST_CHARACTERS.false
-    (sym c.hex_line.ensures ∙ c.if-not-hex_line.true))
-
-pub answer_in-requires : goal.answer_in-requires
-answer_in-requires c = (
-  sym c.hex_line.ensures
-      ∙ c.if-not-hex_line.false,
-  search rules,
-  search rules,
+returns-then-not-hex_line c = (
+  sym (line_no_hex _ c.if-line-gt-MOST_CHARACTERS.false
+      (sym c.hex_line.ensures ∙ c.if-not-hex_line.true)),
+  refl,
 )
 
 pub returns-then-line-le-SHORT : goal.returns-then-line-le-SHORT
@@ -24,14 +18,6 @@ returns-then-line-le-SHORT c = answers_same c.answer_in.ensures
     (line_framed _ c.if-line-gt-MOST_CHARACTERS.false
     (sym c.hex_line.ensures
     ∙ c.if-not-hex_line.false))
-
-pub answer_in-requires-2 : goal.answer_in-requires-2
-answer_in-requires-2 c = (
-  sym c.hex_line.ensures
-      ∙ c.if-not-hex_line.false,
-  search rules,
-  search rules,
-)
 
 pub returns : goal.returns
 returns c = answers_same c.answer_in-2.ensures

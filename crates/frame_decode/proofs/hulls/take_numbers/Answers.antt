@@ -17,5 +17,5 @@ take_floats-requires-2 c = let asked = c.args in
 pub returns : goal.returns
 returns c = takes_all _ _ _ (search rules)
     c.planes_from-before.ensures
-    c.planes_at-behind.ensures c.take_floats.ensures
+    c.planes_at.ensures c.take_floats.ensures
     c.take_floats-2.ensures

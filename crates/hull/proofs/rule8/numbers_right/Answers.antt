@@ -9,7 +9,7 @@ pub returns-then-not-numbers_small : goal.returns-then-not-numbers_small
 returns-then-not-numbers_small c =
     let limited = c.before.before in
     refuses _ _ _ _ (ap not c.if-not-numbers_small.true) (rw limited.coordinate_limit-limit.ensures at c.numbers_small.ensures)
-    (λ p. part_small limited.args.size _ _ _ p.smalls (omega arith))
+    (λ p. part_small limited.args.hull.now.size _ _ _ p.smalls (omega arith))
 
 pub returns-then-not-padding_small : goal.returns-then-not-padding_small
 returns-then-not-padding_small c = refuses _ _ _ _ (ap not c.if-not-padding_small.true) c.padding_small.ensures (padding_passes _ _ _)

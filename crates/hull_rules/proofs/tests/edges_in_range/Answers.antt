@@ -1,24 +1,10 @@
--- The half-edges before the one at hand are in range.
-use mathlib.Core.Path.{sym, ◌∙◌}
-use native.Mathlib.Omega.{arith}
-use borrow.Author.Rules.{rules}
-use Rattle.hull_links.proofs.Tests.{all_none, all_more, all_done, all_fails}
+-- The half-edges are tried in turn.
+use Rattle.std.proofs.Common.{rules, tests}
+use Rattle.hull_links.specs.Rules.{edge_in_range}
+use Rattle.hull_rules.proofs.Ranges.{all_tested}
 use Rattle.hull_rules.proofs.tests.edges_in_range.Goals as goal
 
-pub loop-i-init : goal.loop-i-init
-loop-i-init c = (search rules, all_none _)
-
-pub returns-then-not-edge_in_range : goal.returns-then-not-edge_in_range
-returns-then-not-edge_in_range c = sym (all_fails _ _ _ c.loop-i-test.true (sym c.edge_in_range.ensures ∙ c.if-not-edge_in_range.true))
-
-pub overflow_add-i : goal.overflow_add-i
-overflow_add-i c = omega arith
-
-pub loop-i-smaller : goal.loop-i-smaller
-loop-i-smaller c = omega arith
-
-pub loop-i-preserved : goal.loop-i-preserved
-loop-i-preserved c = (omega arith, all_more _ _ c.loop-i.invariant.1 (sym c.edge_in_range.ensures ∙ c.if-not-edge_in_range.false))
-
 pub returns : goal.returns
-returns c = sym (all_done _ _ _ c.loop-i.invariant.0 c.loop-i-test.false c.loop-i.invariant.1)
+returns c =
+    let h = c.args.hull.now in
+    all_tested (edge_in_range h.size h.links.now) (h.size.half_edges) _ _ _ _ (cc) c.all.ensures.ran (λ x b q k. search (rules, tests))

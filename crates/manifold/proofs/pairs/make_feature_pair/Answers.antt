@@ -4,4 +4,4 @@ use Rattle.manifold.proofs.pairs.make_feature_pair.Goals as goal
 
 pub returns : goal.returns
 unfolding pair_of
-returns c = simp (c.owner_number-2.ensures, c.owner_number.ensures)
+returns c = simp (c.from-2.ensures, c.from.ensures)

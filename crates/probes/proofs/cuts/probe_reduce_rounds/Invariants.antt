@@ -1,5 +1,4 @@
 -- Each round adds the same count.
-use Rattle.std.proofs.Common.{◌-◌, ◌≤◌}
 use Rattle.vector.specs.Awaited.{arbitrary_perp_of}
 use Rattle.units.specs.Limits.{speculative}
 use Rattle.reduce_scores.specs.Images.{images_in}
@@ -8,10 +7,7 @@ use Rattle.reduce.specs.Reduce.{first_picks, points_of}
 use Rattle.probes.proofs.Rounds.{Summed}
 use Rattle.probes.proofs.cuts.probe_reduce_rounds.Given as goal
 
-abbrev pub invariant-loop-i : goal.invariant-loop-i
-invariant-loop-i l = (l.i ≤ l.fn.rounds) × (let images = images_in l.fn.normal l.fn.places l.fn.tags l.fn.from l.fn.n in
+abbrev pub invariant-loop : goal.invariant-loop
+invariant-loop l = let images = images_in l.fn.normal l.fn.places l.fn.tags l.fn.from l.fn.n in
     Summed (contact_of l.fn.normal (points_of (first_picks (speculative l.fn.unit) (arbitrary_perp_of l.fn.normal) l.fn.normal images) images)).count l.total
-    l.i)
-
-abbrev pub decreases-loop-i : goal.decreases-loop-i
-decreases-loop-i l = l.fn.rounds - l.i
+    l.counter

@@ -10,14 +10,14 @@ pub returns-then-n-eq0 : goal.returns-then-n-eq0
 unfolding placed_from normal_of contact_of
 returns-then-n-eq0 c =
     let a = c.args in
-    all_of a.normal a.places.now a.tags.now a.from a.n 0 c.if-n-eq0.true _ refl _ c.empty_contact.ensures
+    all_of a.normal a.corners.now.numbers a.corners.now.tags a.from a.n 0 c.if-n-eq0.true _ refl _ c.empty_contact.ensures
 
 pub returns-then-n-eq1 : goal.returns-then-n-eq1
 unfolding placed_from
 returns-then-n-eq1 c =
     let one = c.before.before in
     let a = one.args in
-    all_of a.normal a.places.now a.tags.now a.from a.n 1 c.if-n-eq1.true _
+    all_of a.normal a.corners.now.numbers a.corners.now.tags a.from a.n 1 c.if-n-eq1.true _
     (rw (one.point_of-p1.ensures, one.image_at.ensures, add-zero a.from)) _ c.one_point.ensures
 
 pub returns-then-n-eq2 : goal.returns-then-n-eq2
@@ -26,7 +26,7 @@ returns-then-n-eq2 c =
     let two = c.before.before in
     let one = two.before.before.before in
     let a = one.args in
-    all_of a.normal a.places.now a.tags.now a.from a.n 2 c.if-n-eq2.true _
+    all_of a.normal a.corners.now.numbers a.corners.now.tags a.from a.n 2 c.if-n-eq2.true _
     (rw (one.point_of-p1.ensures, one.image_at.ensures, add-zero a.from, two.point_of-p2.ensures, two.image_at-2.ensures)) _
     c.two_points.ensures
 
@@ -37,7 +37,7 @@ returns-then-n-eq3 c =
     let two = three.before.before.before in
     let one = two.before.before.before in
     let a = one.args in
-    all_of a.normal a.places.now a.tags.now a.from a.n 3 c.if-n-eq3.true _
+    all_of a.normal a.corners.now.numbers a.corners.now.tags a.from a.n 3 c.if-n-eq3.true _
     (rw (
       one.point_of-p1.ensures,
       one.image_at.ensures,
@@ -48,14 +48,6 @@ returns-then-n-eq3 c =
       three.image_at-3.ensures,
     )) _ c.three_points.ensures
 
-pub overflow_add-from-3 : goal.overflow_add-from-3
-overflow_add-from-3 c = omega (arith, c.requires.1)
-
-pub image_at-requires-4 : goal.image_at-requires-4
-image_at-requires-4 c =
-    let start = c.before.before.before.before.before.before.before.before.before.before.before.before in
-    (start.requires.0, omega (arith, start.requires.1))
-
 pub returns : goal.returns
 unfolding placed_from
 returns c =
@@ -63,17 +55,16 @@ returns c =
     let three = four.before.before.before in
     let two = three.before.before.before in
     let one = two.before.before.before in
-    let start = one.before.before.before.before.before in
-    let a = start.args in
+    let a = one.args in
     let all : a.n ≡ 4 = omega (
       arith,
-      start.requires.2,
+      c.requires.1,
       four.if-n-eq3.false,
       three.if-n-eq2.false,
       two.if-n-eq1.false,
       one.if-n-eq0.false,
     ) in
-    all_of a.normal a.places.now a.tags.now a.from a.n 4 all _
+    all_of a.normal a.corners.now.numbers a.corners.now.tags a.from a.n 4 all _
     (rw (
       one.point_of-p1.ensures,
       one.image_at.ensures,

@@ -1,5 +1,5 @@
 -- The loop's invariant: `least` is the least of the first i separations, by the definition.
-use Prim.Native.Nat.{ℕ, ◌-◌, ◌≤◌}
+use Prim.Native.Nat.{ℕ}
 use mathlib.Core.Path.{◌≡◌}
 use lib.Ieee.{Float}
 use Rattle.vector.specs.Scalar.{min_of}
@@ -14,7 +14,4 @@ abbrev pub least_turn : Float → ℕ → ClipVertex → Float
 least_turn least i v = min_of least v.separation
 
 abbrev pub invariant-loop-i : goal.invariant-loop-i
-invariant-loop-i l = (l.i ≤ l.n) × (l.least ≡ over least_turn largest (corners_in l.places l.tags l.from l.n) l.i)
-
-abbrev pub decreases-loop-i : goal.decreases-loop-i
-decreases-loop-i l = l.n - l.i
+invariant-loop-i l = l.least ≡ over least_turn largest (corners_in l.corners.numbers l.corners.tags l.from l.n) l.i

@@ -6,6 +6,6 @@ pub returns-then-s : goal.returns-then-s
 unfolding is_fraction_of
 returns-then-s c = simp c.if-s.true
 
-pub returns : goal.returns
+pub returns-else-s : goal.returns-else-s
 unfolding is_fraction_of
-returns c = simp c.if-s.false
+returns-else-s c = simp c.if-s.false

@@ -1,12 +1,9 @@
--- `min_int`: the test picks the definition's case.
-use borrow.Author.Tests.{le-ltb, lt-ltb}
+-- `min_int`: the library's `min` takes the second where it is below the first, so both agree.
+use Rattle.std.proofs.Common.{arith}
+use Rattle.std.proofs.lemmas.Grind.{common_steps}
 use Rattle.vector.specs.Scalar.{min_int_of}
 use Rattle.vector.proofs.scalar.min_int.Goals as goal
 
-pub returns-then-a-b : goal.returns-then-a-b
-unfolding min_int_of
-returns-then-a-b c = simp (lt-ltb _ _ c.if-a-b.true)
-
 pub returns : goal.returns
 unfolding min_int_of
-returns c = simp (le-ltb _ _ c.if-a-b.false)
+returns c = grind (arith, common_steps)

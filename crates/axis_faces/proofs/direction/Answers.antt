@@ -1,7 +1,0 @@
--- `direction`: turned, then negated.
-use Rattle.axis_faces.specs.Faces.{direction_of}
-use Rattle.axis_faces.proofs.direction.Goals as goal
-
-pub returns : goal.returns
-unfolding direction_of
-returns c = simp (c.neg-against.ensures, c.mul_mv-turned.ensures)

@@ -1,8 +1,0 @@
--- Four bytes, one behind the other.
-use mathlib.Core.Path.{refl}
-use Rattle.lists.proofs.Written.{then}
-use Rattle.frame_encode.proofs.put_places.Goals as goal
-
-pub returns : goal.returns
-returns c = then (then (then c.write_byte.ensures c.write_byte-2.ensures refl)
-    c.write_byte-3.ensures refl) c.write_byte-4.ensures refl

@@ -1,0 +1,8 @@
+-- The best so far is the best of the first i that are left.
+use mathlib.Core.List.{[], ◌∷◌}
+use Rattle.reduce.specs.Reduce.{tolerance}
+use Rattle.reduce.proofs.Answers.{Searching, nothing, third_turn}
+use Rattle.reduce.proofs.searches.third_search.Given as goal
+
+abbrev pub invariant-loop-i : goal.invariant-loop-i
+invariant-loop-i l = Searching (third_turn l.images.normal l.a l.ba) (nothing (tolerance l.far)) l.images (l.j1 ∷ l.j2 ∷ []) l.best l.i
