@@ -102,7 +102,7 @@ fn side_a(a: &Hull, b: &Hull, transform: Transform, r: [[f32; 3]; 3]) -> Lead
     axis_faces::search_faces(Side::A, rotation::transpose(r), transform.p, a, b)
 }
 
-// B's faces against A's vertices.
+// B's faces against A's vertices. Not one function with A's: A's normals go by the transpose, and the hulls change places.
 fn side_b(a: &Hull, b: &Hull, transform: Transform, r: [[f32; 3]; 3]) -> Lead
     requires { Accepted a.now.size a.now.numbers.now a.now.links.now × Accepted b.now.size b.now.numbers.now b.now.links.now × Placed transform
         × (r ≡ matrix_of transform.q) }

@@ -9,7 +9,8 @@ use units::speculative_distance;
 use vector::Vec3;
 
 // `apart` says that the search has stopped at this axis. Where nothing was found, the separation is minus infinity and the rest is zero. No Option:
-// minus infinity is below the first axis as each axis is below a better one, so `better` has one test for both.
+// minus infinity is below the first axis as each axis is below a better one, so `better` has one test for both. Fields and no `Axis`: `none_of`, `better_of`
+// and what is proved of them read each by itself.
 #[derive(Clone, Copy)]
 pub struct Lead {
     pub found: bool,

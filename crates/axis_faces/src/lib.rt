@@ -16,7 +16,7 @@ use vector::Vec3;
 use vector::arithmetic::{abs, dot, neg};
 use vector::shape::{aabb_center, aabb_extents};
 
-// Whose faces are tried.
+// Whose faces are tried. What goes by it picks a value, and no step.
 #[derive(Clone, Copy)]
 pub enum Side {
     A,

@@ -55,7 +55,7 @@ fn fill_table(lists: &Lists, faces: usize, width: usize, table: &mut [f32])
     }
 }
 
-// Whether there is room for every row, as for two logs; the table holds them then.
+// Whether there is room for every row, as for two logs; the table holds them then. A bool and no Option of a table: either way the caller's table is lent.
 fn fill_whole(lists: &Lists, faces: usize, width: usize, table: &mut [f32]) -> bool
     requires { (faces ≤ 128) × (width ≤ 128) × (length table.old ≡ 1024) }
     ensures { (result ≡ leb (faces * width) 1024) × (length table.new ≡ 1024)

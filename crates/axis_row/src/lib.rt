@@ -54,7 +54,7 @@ pub fn advanced(m: usize, failed: bool) -> usize
     if failed { m } else { m + 1 }
 }
 
-// 1 where the product passes, else 0.
+// 1 where the product passes, else 0: a number, since the ones are summed without a branch.
 fn passes(product: f32) -> u8
     ensures { (result ≡ cond (at_least_eps product) 0 1) × (result ≤ 1) }
 {

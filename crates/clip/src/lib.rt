@@ -61,6 +61,7 @@ pub fn build_polygon(
     let start = hull.face_edge(face);
     let mut e = start;
     let mut n = 0;
+    // A walk along links: no index is counted, and `put` says how many corners stand.
     loop {
         let v = corner(hull, matrix, p, e, reference);
         n = corners.put(0, n, v);
@@ -99,6 +100,7 @@ pub fn clip_to_face(
     let mut p = 0;
     let mut e = start;
     let mut k = 0;
+    // A walk along links: no index is counted, and `next_side` says which plane is next.
     loop {
         let plane = sides[k];
         let kept = clip_cut::cut_side(corners, p, n, plane, e as u8, reference);

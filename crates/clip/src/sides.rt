@@ -29,8 +29,8 @@ pub fn fill_sides(hull: &Hull, start: usize, first: usize, normal: Vec3, sides: 
         first) }
 {
     let mut e = first;
-    for k in 0..16 {
-        sides[k] = side_plane(hull, e, normal);
+    for side in sides.iter_mut() {
+        *side = side_plane(hull, e, normal);
         e = hull.next_of(e);
         if e == start {
             return;

@@ -20,6 +20,7 @@ pub struct Kept {
 
 // The place of 128 corners: of corner p the numbers x, y, z and the separation, and the bytes of the tag, both from place 4 p on. Two lists and not one
 // of corners, since record `Laid` says what stands at every place of two lists. `room` says of them what their types say, so that proofs can name it.
+// In C's layout, since the probes are lent one.
 #[repr(C)]
 #[derive(Clone, Copy)]
 pub struct Corners {

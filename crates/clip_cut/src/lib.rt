@@ -13,95 +13,91 @@ use vector::arithmetic::{mul_add, sub};
 use vector::shape::plane_separation;
 use vector::{Plane, Vec3};
 
-// Where the edge from v1 to v2, at the distances d1 and d2, meets the plane.
-fn meeting(v1: ClipVertex, d1: f32, v2: ClipVertex, d2: f32) -> Vec3
-    ensures { result ≡ meeting_of v1 d1 v2 d2 }
-{
-    let fraction = d1 / (d1 - d2);
-    mul_add(v1.position, fraction, sub(v2.position, v1.position))
-}
-
-// The new corner where the edge leaves what is kept: tagged with v2's first edge and the edge that cuts.
-fn leaving(
+// An edge of a polygon from v1 to v2, which lie at the distances d1 and d2 from a plane that cuts. The plane stands on half-edge `edge` of the face with
+// plane `reference`.
+#[derive(Clone, Copy)]
+struct Crossing {
     v1: ClipVertex,
     d1: f32,
     v2: ClipVertex,
     d2: f32,
     edge: u8,
     reference: Plane,
-) -> ClipVertex
-    ensures { result ≡ leaving_of edge reference v1 d1 v2 d2 }
-{
-    let position = meeting(v1, d1, v2, d2);
-    ClipVertex {
-        position,
-        separation: plane_separation(reference, position),
-        pair: FeaturePair {
-            owner1: v2.pair.owner1,
-            index1: v2.pair.index1,
-            owner2: 0,
-            index2: edge,
-        },
-    }
 }
 
-// The new corner where the edge enters: tagged with the edge that cuts and v1's second edge.
-fn entering(
-    v1: ClipVertex,
-    d1: f32,
-    v2: ClipVertex,
-    d2: f32,
-    edge: u8,
-    reference: Plane,
-) -> ClipVertex
-    ensures { result ≡ entering_of edge reference v1 d1 v2 d2 }
-{
-    let position = meeting(v1, d1, v2, d2);
-    ClipVertex {
-        position,
-        separation: plane_separation(reference, position),
-        pair: FeaturePair {
-            owner1: 0,
-            index1: edge,
-            owner2: v1.pair.owner2,
-            index2: v1.pair.index2,
-        },
+impl Crossing {
+    // Where the edge meets the plane.
+    fn meeting(&self) -> Vec3
+        ensures { result ≡ meeting_of self.now.v1 self.now.d1 self.now.v2 self.now.d2 }
+    {
+        let fraction = self.d1 / (self.d1 - self.d2);
+        mul_add(
+            self.v1.position,
+            fraction,
+            sub(self.v2.position, self.v1.position),
+        )
     }
-}
 
-// What the edge from v1 to v2 puts out, behind the k corners that stand from corner p on.
-fn put_out(
-    corners: &mut Corners,
-    p: usize,
-    k: usize,
-    v1: ClipVertex,
-    d1: f32,
-    v2: ClipVertex,
-    d2: f32,
-    edge: u8,
-    reference: Plane,
-) -> usize
-    requires { (p ≤ 64) × (k < 128) }
-    ensures { Laid corners.old.numbers corners.old.tags p k (put_out_of edge reference v1 d1 v2 d2) corners.new.numbers corners.new.tags result }
-{
-    if d1 <= 0.0 {
-        if d2 <= 0.0 {
-            return corners.put(p, k, v2);
-        }
-        if d2 > 0.0 {
-            let v = leaving(v1, d1, v2, d2, edge, reference);
-            return corners.put(p, k, v);
-        }
-        return k;
-    }
-    if d1 > 0.0 {
-        if d2 <= 0.0 {
-            let v = entering(v1, d1, v2, d2, edge, reference);
-            let m = corners.put(p, k, v);
-            return corners.put(p, m, v2);
+    // The new corner where the edge leaves what is kept: tagged with v2's first edge and the edge that cuts.
+    fn leaving(&self) -> ClipVertex
+        ensures { result ≡ leaving_of self.now.edge self.now.reference self.now.v1 self.now.d1 self.now.v2 self.now.d2 }
+    {
+        let position = self.meeting();
+        ClipVertex {
+            position,
+            separation: plane_separation(self.reference, position),
+            pair: FeaturePair {
+                owner1: self.v2.pair.owner1,
+                index1: self.v2.pair.index1,
+                owner2: 0,
+                index2: self.edge,
+            },
         }
     }
-    k
+
+    // The new corner where the edge enters: tagged with the edge that cuts and v1's second edge.
+    fn entering(&self) -> ClipVertex
+        ensures { result ≡ entering_of self.now.edge self.now.reference self.now.v1 self.now.d1 self.now.v2 self.now.d2 }
+    {
+        let position = self.meeting();
+        ClipVertex {
+            position,
+            separation: plane_separation(self.reference, position),
+            pair: FeaturePair {
+                owner1: 0,
+                index1: self.edge,
+                owner2: self.v1.pair.owner2,
+                index2: self.v1.pair.index2,
+            },
+        }
+    }
+
+    // What the edge puts out, behind the k corners that stand from corner p on.
+    fn put_out(&self, corners: &mut Corners, p: usize, k: usize) -> usize
+        requires { (p ≤ 64) × (k < 128) }
+        ensures { Laid corners.old.numbers corners.old.tags p k (put_out_of self.now.edge self.now.reference self.now.v1 self.now.d1
+            self.now.v2 self.now.d2) corners.new.numbers corners.new.tags result }
+    {
+        let Crossing { d1, v2, d2, .. } = *self;
+        if d1 <= 0.0 {
+            if d2 <= 0.0 {
+                return corners.put(p, k, v2);
+            }
+            if d2 > 0.0 {
+                let v = self.leaving();
+                return corners.put(p, k, v);
+            }
+            return k;
+        }
+        if d1 > 0.0 {
+            if d2 <= 0.0 {
+                let v = self.entering();
+                let m = corners.put(p, k, v);
+                return corners.put(p, m, v2);
+            }
+        }
+        k
+    }
 }
 
 // The cut of the polygon of n corners from corner p on, by a plane that stands on half-edge `edge` of the reference face. What it leaves stands from
@@ -125,7 +121,15 @@ pub fn clip_polygon(
     for i in 0..n {
         let v2 = corners.corner_at(p + i);
         let d2 = plane_separation(plane, v2.position);
-        k = put_out(corners, q, k, v1, d1, v2, d2, edge, reference);
+        let crossing = Crossing {
+            v1,
+            d1,
+            v2,
+            d2,
+            edge,
+            reference,
+        };
+        k = crossing.put_out(corners, q, k);
         v1 = v2;
         d1 = d2;
     }

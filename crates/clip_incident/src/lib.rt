@@ -11,7 +11,8 @@ use vector::Vec3;
 use vector::arithmetic::{dot, normalize, sub};
 use vector::scalar::abs_float;
 
-// A half-edge, and how far it lies along the normal.
+// A half-edge, and how far it lies along the normal. There is always one, the first of the fan at first: definition `flatter_of` holds it as a record of
+// two numbers.
 #[derive(Clone, Copy)]
 pub struct Flattest {
     pub edge: usize,
@@ -53,6 +54,7 @@ fn flattest_edge(hull: &Hull, normal: Vec3, vertex: usize) -> usize
         projection: f32::MAX,
     };
     let mut e = start;
+    // A walk along links: no index is counted.
     loop {
         best = flatter(best, e, projection(hull, origin, e, normal));
         let twin = hull.twin_of(e);

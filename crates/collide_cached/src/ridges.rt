@@ -8,7 +8,7 @@ use vector::arithmetic::{dot, length_squared, lerp, normalize, sub};
 use vector::scalar::max_float;
 use vector::{Transform, Vec3};
 
-// An edge as the hull holds it: where half-edges e and e + 1 start, and the normals of their faces.
+// Not axis_edges' `Edge`, which has no end to carry. An edge as the hull holds it: where half-edges e and e + 1 start, and the normals of their faces.
 #[derive(Clone, Copy)]
 struct Edge {
     from: Vec3,

@@ -50,7 +50,8 @@ pub struct Build {
     pub cache: SatCache,
 }
 
-// They touch: the contact, and the axis that made it.
+// They touch: the contact, and the axis that made it. A type, a status and a mark are numbers here and below: each of these functions takes any, and a
+// narrower type would ask more.
 pub fn touched(contact: Contact, separation: f32, kind: u8, index_a: u8, index_b: u8) -> Build
     ensures { built_of (Ok result) ≡ touched_of contact separation kind index_a index_b }
 {

@@ -6,6 +6,7 @@ use hull::first_broken_rule;
 use hull_links::{Hull, HullSize, rule_number};
 
 // The first broken rule, 0 if none, whatever is lent. By it the call refuses: 1 where it is not 0 of hull A, 2 where it is 0 of A and not 0 of B.
+// A number and no Option of a rule: C is handed it.
 pub fn contact_first_broken_rule(numbers: &[f32], links: &[u8], size: HullSize) -> u8
     ensures { result ≡ broken_rule size numbers.now links.now }
 {

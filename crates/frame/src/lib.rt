@@ -1,5 +1,6 @@
 // The answer to one frame of bytes, and to one line of characters, exactly as document 01's section "The hex program" has them (specs/Frames.antt,
 // specs/Lines.antt). A frame is 1 to any number of bytes, its kind first; an answer is 2, 5 or 108.
+// An answer goes into a list that is lent, as C lends one, and how many places it takes is returned: neither a frame's nor a line's has one fixed length.
 #![tactic(auto)]
 
 pub mod lines;

@@ -48,7 +48,7 @@ fn take_floats(frame: &[u8], at: usize, n: usize, numbers: &mut [f32], from: usi
 }
 
 // The numbers of the hull that begins at `at`, from the first place on, and how many were taken: none where they are more than any accepted hull has. The
-// list that is lent has room for those that are taken, and need have no more.
+// list that is lent has room for those that are taken, and need have no more. 0 is no flag: it is how many were taken.
 pub fn take_numbers(frame: &[u8], at: usize, s: HullSize, numbers: &mut [f32]) -> usize
     requires { Sent s × (at + hull_length s ≤ length frame.now) × (length (numbers_taken frame.now at s) ≤ length numbers.old) }
     ensures { Taken frame.now at s numbers.old result numbers.new }

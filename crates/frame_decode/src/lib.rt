@@ -1,5 +1,5 @@
 // Values read from the bytes of a frame, the high byte first, by the place where they begin. What stands where is in specs/Fields.antt and, of a
-// hull, in specs/Hulls.antt.
+// hull, in specs/Hulls.antt. The frame, and the place in it, stay two parameters: one frame is read at many places.
 #![tactic(auto)]
 
 pub mod hulls;

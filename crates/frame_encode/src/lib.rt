@@ -1,5 +1,5 @@
 // Values written as bytes into a slice that is lent, the high byte first, as document 01's section "The hex program" has them. What each one's bytes
-// are is in specs/Bytes.antt.
+// are is in specs/Bytes.antt. The slice, and the place in it, stay two parameters: record Wrote speaks of both.
 #![tactic(auto)]
 
 ghost use Rattle.std.specs.Prelude.{◌+◌, ◌≤◌, length};

@@ -43,7 +43,7 @@ fn byte_of(line: &[u8], i: usize) -> u8
     16 * high + low
 }
 
-// The bytes of the line, from the first place on.
+// The bytes of the line, from the first place on. The loop counts: over `iter_mut` its record has a part's items, and Wrote speaks of the whole list.
 pub fn take_bytes(line: &[u8], bytes: &mut [u8])
     requires { (hex_line line.now ≡ true) × (length line.now / 2 ≤ length bytes.old) }
     ensures { Wrote bytes.old 0 (bytes_of line.now) bytes.new }
@@ -66,8 +66,8 @@ pub fn put_hex(bytes: &[u8], line: &mut [u8])
     requires { 2 * length bytes.now ≤ length line.old }
     ensures { Wrote line.old 0 (hex_of bytes.now) line.new }
 {
-    for i in 0..bytes.len() {
-        write(line, 2 * i, digit_of(bytes[i] / 16));
-        write(line, 2 * i + 1, digit_of(bytes[i] % 16));
+    for (i, &byte) in bytes.iter().enumerate() {
+        write(line, 2 * i, digit_of(byte / 16));
+        write(line, 2 * i + 1, digit_of(byte % 16));
     }
 }

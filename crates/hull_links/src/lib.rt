@@ -17,6 +17,9 @@ pub struct HullSize {
 }
 
 // A hull as it is lent: its box, vertices and planes in one list of numbers, its links in one list of bytes. Nothing is known of it until it is judged.
+// What is known of it then stays in clauses (`LinksFit`, `NumbersFit`, `Accepted`) and no type carries it: docs/FREEDOMS.md lists nearly every function with
+// what it requires, and a type with an invariant would ask that of a caller that only lends a hull. Two hulls and a transform go on as three parameters,
+// since a contact on a face of B exchanges the hulls and inverts the transform, and most steps read one hull.
 #[derive(Clone, Copy)]
 pub struct Hull<'a> {
     pub numbers: &'a [f32],
@@ -75,7 +78,8 @@ pub fn padded(size: HullSize) -> usize
     (size.vertices + 3) / 4 * 4
 }
 
-// Where the x list begins, behind the box; where the y list and the z list begin, each behind the one before it.
+// Where the x list begins, behind the box; where the y list and the z list begin, each behind the one before it. A function for each, by the name of the
+// place: one function with the list's number is no plainer.
 pub const X_FROM: usize = 6;
 
 pub fn y_from(size: HullSize) -> usize
@@ -108,6 +112,7 @@ pub fn byte_at(links: &[u8], i: usize) -> usize
     usize::from(links[i])
 }
 
+// A method for each thing that is stored, by its name: one method with the number of the field is no plainer.
 impl Hull<'_> {
     // Half-edge e: the one after it on its ring, its twin, the vertex that it starts from and the face that it goes round.
     pub fn next_of(&self, e: usize) -> usize

@@ -103,9 +103,8 @@ fn nexts_right(hull: &Hull) -> bool
     requires { LinksFit hull.now.size hull.now.links.now × (h2 hull.now.size hull.now.links.now ≡ true) }
     ensures { result ≡ h5 hull.now.size hull.now.links.now }
 {
-    let n = hull.size.half_edges;
     let mut marks = hull_marks::no_marks();
-    for i in 0..n {
+    for i in 0..hull.size.half_edges {
         let t = hull.next_of(i);
         if hull_marks::is_marked(&marks, t) {
             return false;

@@ -12,6 +12,7 @@ use hull_links::Hull;
 use hull_marks::{mark_anew, no_marks};
 
 // The faces that are entered, each once: the queue has, for each of the first `count`, the half-edge by which it was entered, and each has its mark.
+// An array with a count, since the routine has fixed memory.
 #[derive(Clone, Copy)]
 struct Entered {
     queue: [u8; 129],
@@ -31,6 +32,7 @@ impl Entered {
     {
         let all = hull.size.faces;
         let mut e = start;
+        // The walk follows links and counts no index, so this is no `for`.
         loop {
             let across = hull.twin_of(e);
             let f = hull.face_of(across);

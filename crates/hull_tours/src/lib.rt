@@ -39,10 +39,9 @@ pub fn rings_toured(hull: &Hull) -> bool
     requires { LinksFit hull.now.size hull.now.links.now }
     ensures { (result ≡ true → Ringed hull.now.size hull.now.links.now) × (Ringed hull.now.size hull.now.links.now → result ≡ true) }
 {
-    let faces = hull.size.faces;
     let h = hull.size.half_edges;
     let mut ringed = 0;
-    for f in 0..faces {
+    for f in 0..hull.size.faces {
         let start = hull.face_edge(f);
         if start >= h {
             return false;
@@ -98,10 +97,9 @@ pub fn fans_toured(hull: &Hull) -> bool
     requires { LinksFit hull.now.size hull.now.links.now × Ringed hull.now.size hull.now.links.now }
     ensures { (result ≡ true → Fanned hull.now.size hull.now.links.now) × (Fanned hull.now.size hull.now.links.now → result ≡ true) }
 {
-    let vertices = hull.size.vertices;
     let h = hull.size.half_edges;
     let mut fanned = 0;
-    for v in 0..vertices {
+    for v in 0..hull.size.vertices {
         let start = hull.vertex_edge(v);
         if start >= h {
             return false;

@@ -23,7 +23,7 @@ impl From<AxisKind> for u8 {
     }
 }
 
-// The axis that a cache of this type names; every other type names none.
+// The axis that a cache of this type names; every other type names none. An `Option` and no `TryFrom`, since a cache without an axis is no error.
 pub fn axis_kind(kind: u8) -> Option<AxisKind>
     ensures { result ≡ axis_kind_of kind }
 {

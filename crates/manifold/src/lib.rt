@@ -1,5 +1,6 @@
 // The records that contacts are made of, tags of points, and the way between floats and their bits. From manifold/types.rs; `flip_pair` from clip.rs.
-// C reads and writes the records, so kinds, owners, refusals and marks are numbers in them, and the points an array with a count beside it.
+// C reads and writes the records, so kinds, owners, refusals and marks are numbers in them, the place of an unused point is 255 and no `None`, and the
+// points are an array with a count beside it.
 #![tactic(auto)]
 
 pub mod bits;

@@ -29,10 +29,8 @@ pub fn unused_point() -> Point
 pub fn empty_contact() -> Contact
     ensures { result ≡ empty_contact }
 {
-    let unused = unused_point();
-    let points = [unused; 4];
     Contact {
-        points,
+        points: [unused_point(); 4],
         normal: Vec3 {
             x: 0.0,
             y: 0.0,
@@ -54,7 +52,7 @@ pub fn empty_cache() -> SatCache
     }
 }
 
-// The cache as it is but for its hit.
+// The cache as it is but for its hit: a number, as C reads it, since a narrower type would ask more of a caller.
 pub fn hit_set(hit: u8, cache: SatCache) -> SatCache
     ensures { result ≡ hit_set hit cache }
 {

@@ -20,7 +20,8 @@ pub fn rule_of(judged: &[u8], n: usize, h: usize) -> u8
     if h < n { judged[h] } else { 1 }
 }
 
-// The answer to hulls a and b, whose rules are known. The corners are lent for the work, and what they hold does not matter.
+// The answer to hulls a and b, whose rules are known. The corners are lent for the work, and what they hold does not matter. The rules are numbers, as they
+// stand in the list that hosts lend.
 pub fn pair_answer(
     pools: &Pools,
     rule_a: u8,

@@ -1,5 +1,6 @@
 // Pairs in lists of numbers: the transform of pair k in seven floats, its cache in two words, its contact in 19 floats, what it is called in bytes.
-// What stands where is in specs/Rows.antt.
+// What stands where is in specs/Rows.antt. `frame_decode` has functions named transform_at and cache_at too: they read bytes, these floats and words, so one
+// function for both would be no plainer.
 #![tactic(auto)]
 
 ghost use Rattle.std.specs.Prelude.{◌≡◌, ◌+◌, ◌*◌, ◌/◌, ◌<◌, ◌≤◌, length};

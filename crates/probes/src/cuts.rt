@@ -4,7 +4,7 @@ ghost use Rattle.vector.specs.Awaited.{arbitrary_perp_of};
 ghost use Rattle.units.specs.Limits.{speculative};
 ghost use Rattle.hull.specs.Accepted.{Accepted};
 ghost use Rattle.clip_cut.specs.Cut.{cut_of};
-ghost use Rattle.clip_corners.specs.Places.{Roomy, SideBySide, corner_in, corners_in, Laid};
+ghost use Rattle.clip_corners.specs.Places.{SideBySide, corner_in, corners_in, Laid};
 ghost use Rattle.clip_corners.specs.Standing.{Standing};
 ghost use Rattle.reduce_scores.specs.Images.{image_of, images_in, least_separation_of, touching_of};
 ghost use Rattle.reduce_points.specs.Points.{contact_of};
@@ -17,21 +17,9 @@ use hull_links::{Hull, HullSize};
 use manifold::{ClipVertex, Contact};
 use vector::{Plane, Transform, Vec3};
 
-// The corners that a caller's two lists hold.
-fn corners_of(places: &[f32], tags: &[u8]) -> Corners
-    requires { Roomy places.now tags.now }
-    ensures { (result.numbers ≡ places.now) × (result.tags ≡ tags.now) }
-{
-    let mut corners = Corners::new();
-    corners.numbers.copy_from_slice(places);
-    corners.tags.copy_from_slice(tags);
-    corners
-}
-
 #[unsafe(no_mangle)]
 pub extern "C" fn probe_clip_polygon(
-    numbers: &mut [f32],
-    tags: &mut [u8],
+    corners: &mut Corners,
     p: usize,
     n: usize,
     plane: Plane,
@@ -39,31 +27,27 @@ pub extern "C" fn probe_clip_polygon(
     reference: Plane,
     q: usize,
 ) -> usize
-    requires { Roomy numbers.old tags.old × SideBySide p q × (0 < n) × (n ≤ 64) }
-    ensures { Laid numbers.old tags.old q 0
-        (cut_of plane edge reference (corners_in numbers.old tags.old p n)) numbers.new tags.new result }
+    requires { SideBySide p q × (0 < n) × (n ≤ 64) }
+    ensures { Laid corners.old.numbers corners.old.tags q 0
+        (cut_of plane edge reference (corners_in corners.old.numbers corners.old.tags p n)) corners.new.numbers corners.new.tags result }
 {
-    let mut corners = corners_of(numbers, tags);
-    let count = clip_cut::clip_polygon(&mut corners, p, n, plane, edge, reference, q);
-    numbers.copy_from_slice(&corners.numbers);
-    tags.copy_from_slice(&corners.tags);
-    count
+    clip_cut::clip_polygon(corners, p, n, plane, edge, reference, q)
 }
 
 #[unsafe(no_mangle)]
-pub extern "C" fn probe_image_at(places: &[f32], tags: &[u8], p: usize, normal: Vec3) -> ClipVertex
-    requires { Roomy places.now tags.now × (p < 128) }
-    ensures { result ≡ image_of normal (corner_in places.now tags.now p) }
+pub extern "C" fn probe_image_at(corners: &Corners, p: usize, normal: Vec3) -> ClipVertex
+    requires { p < 128 }
+    ensures { result ≡ image_of normal (corner_in corners.now.numbers corners.now.tags p) }
 {
-    reduce_scores::images::image_at(&corners_of(places, tags), p, normal)
+    reduce_scores::images::image_at(corners, p, normal)
 }
 
 #[unsafe(no_mangle)]
-pub extern "C" fn probe_least_separation(places: &[f32], tags: &[u8], from: usize, n: usize) -> f32
-    requires { Roomy places.now tags.now × (from ≤ 64) × (n ≤ 64) }
-    ensures { result ≡ least_separation_of (corners_in places.now tags.now from n) }
+pub extern "C" fn probe_least_separation(corners: &Corners, from: usize, n: usize) -> f32
+    requires { (from ≤ 64) × (n ≤ 64) }
+    ensures { result ≡ least_separation_of (corners_in corners.now.numbers corners.now.tags from n) }
 {
-    reduce_scores::images::least_separation(&corners_of(places, tags), from, n)
+    reduce_scores::images::least_separation(corners, from, n)
 }
 
 #[unsafe(no_mangle)]
@@ -76,38 +60,35 @@ pub extern "C" fn probe_touching(unit: usize, count: usize, least: f32) -> bool
 #[unsafe(no_mangle)]
 pub extern "C" fn probe_reduce_manifold_points(
     unit: usize,
-    places: &[f32],
-    tags: &[u8],
+    corners: &Corners,
     from: usize,
     n: usize,
     normal: Vec3,
 ) -> Contact
-    requires { Roomy places.now tags.now × (from ≤ 64) × (n ≤ 64) }
-    ensures { let images = images_in normal places.now tags.now from n in
+    requires { (from ≤ 64) × (n ≤ 64) }
+    ensures { let images = images_in normal corners.now.numbers corners.now.tags from n in
         result ≡ contact_of normal (points_of (first_picks (speculative unit) (arbitrary_perp_of normal) normal images) images) }
 {
-    reduce::reduce_manifold_points(&corners_of(places, tags), from, n, normal, unit)
+    reduce::reduce_manifold_points(corners, from, n, normal, unit)
 }
 
 // So many reductions of the same candidates, and how many points they leave together.
 #[unsafe(no_mangle)]
 pub extern "C" fn probe_reduce_rounds(
     unit: usize,
-    places: &[f32],
-    tags: &[u8],
+    corners: &Corners,
     from: usize,
     n: usize,
     normal: Vec3,
     rounds: usize,
 ) -> usize
-    requires { Roomy places.now tags.now × (from ≤ 64) × (n ≤ 64) × (rounds ≤ 65536) }
-    ensures { let images = images_in normal places.now tags.now from n in
+    requires { (from ≤ 64) × (n ≤ 64) × (rounds ≤ 65536) }
+    ensures { let images = images_in normal corners.now.numbers corners.now.tags from n in
         result ≡ rounds * (contact_of normal (points_of (first_picks (speculative unit) (arbitrary_perp_of normal) normal images) images)).count }
 {
-    let corners = corners_of(places, tags);
     let mut total = 0;
     for _ in 0..rounds {
-        let contact = reduce::reduce_manifold_points(&corners, from, n, normal, unit);
+        let contact = reduce::reduce_manifold_points(corners, from, n, normal, unit);
         total += usize::from(contact.count);
     }
     total
@@ -140,23 +121,18 @@ pub extern "C" fn probe_build_polygon(
     transform: Transform,
     face: usize,
     reference: Plane,
-    places: &mut [f32],
-    tags: &mut [u8],
+    corners: &mut Corners,
 ) -> usize
-    requires { Accepted size numbers.now links.now × (face < size.faces) × Roomy places.old tags.old }
-    ensures { Laid places.old tags.old 0 0 (built_of size numbers.now links.now transform
-        reference face) places.new tags.new result }
+    requires { Accepted size numbers.now links.now × (face < size.faces) }
+    ensures { Laid corners.old.numbers corners.old.tags 0 0 (built_of size numbers.now links.now transform
+        reference face) corners.new.numbers corners.new.tags result }
 {
     let hull = Hull {
         numbers,
         links,
         size,
     };
-    let mut corners = corners_of(places, tags);
-    let count = clip::build_polygon(&hull, transform, face, reference, &mut corners);
-    places.copy_from_slice(&corners.numbers);
-    tags.copy_from_slice(&corners.tags);
-    count
+    clip::build_polygon(&hull, transform, face, reference, corners)
 }
 
 #[unsafe(no_mangle)]
@@ -170,12 +146,11 @@ pub extern "C" fn probe_candidates(
     transform: Transform,
     face: usize,
     vertex: usize,
-    places: &mut [f32],
-    tags: &mut [u8],
+    corners: &mut Corners,
 ) -> Kept
     requires { Accepted size_a numbers_a.now links_a.now × Accepted size_b numbers_b.now links_b.now
-        × (face < size_a.faces) × (vertex < size_b.vertices) × Roomy places.old tags.old }
-    ensures { Standing places.new tags.new (candidates_of size_a numbers_a.now links_a.now
+        × (face < size_a.faces) × (vertex < size_b.vertices) }
+    ensures { Standing corners.new.numbers corners.new.tags (candidates_of size_a numbers_a.now links_a.now
         size_b numbers_b.now links_b.now transform face vertex) result }
 {
     let a = Hull {
@@ -188,9 +163,5 @@ pub extern "C" fn probe_candidates(
         links: links_b,
         size: size_b,
     };
-    let mut corners = corners_of(places, tags);
-    let kept = clip::candidates(&a, &b, transform, face, vertex, &mut corners);
-    places.copy_from_slice(&corners.numbers);
-    tags.copy_from_slice(&corners.tags);
-    kept
+    clip::candidates(&a, &b, transform, face, vertex, corners)
 }

@@ -1,6 +1,6 @@
 // What the runs and the benchmarks of host/ link: a door to each layer, thin. What hosts of the routine link is another library. A probe of several
 // helpers answers them all in one record, so that one call tries a whole layer. The doors to the axis search are in axes.rt, to the cuts and picks in
-// cuts.rt.
+// cuts.rt. The lists of a hull stand one by one, as C lends them; corners are lent as the record that they are.
 #![tactic(auto)]
 
 pub mod axes;
@@ -87,7 +87,7 @@ pub struct Limits {
     pub edge: f32,
 }
 
-// A pair turned round; or the refusal's number and four zeros.
+// A pair turned round; or the refusal's number and four zeros. A number and no Result: C is handed this record.
 #[repr(C)]
 #[derive(Clone, Copy)]
 pub struct Flipped {

@@ -6,7 +6,7 @@
 pub mod all;
 pub mod held;
 pub mod places;
-mod positions;
+pub mod positions;
 mod searches;
 
 ghost use Rattle.std.specs.Prelude.{true, ◌≡◌, ◌≤◌, ◌<◌};
@@ -74,7 +74,7 @@ fn picked(images: &Images, direction: Vec3, far: f32) -> Contact
 }
 
 // At most four points of the n candidates from corner `from` on, each with its place: all of them, in order, where there are four or fewer. The first
-// pick is the one farthest along a direction across the normal.
+// pick is the one farthest along a direction across the normal. `from` and `n` one by one and no `Kept`, as definition `images_in` and a probe take them.
 pub fn reduce_manifold_points(
     corners: &Corners,
     from: usize,

@@ -8,6 +8,9 @@ use manifold::ClipVertex;
 use reduce_scores::{Best, better, reach};
 use vector::Vec3;
 
+// `standing1` to `standing3`: each is the one before it after one pick more, as definition `standing` nests; one function of a list of picks would have
+// a loop where these have none.
+
 // Which of n candidates stands at i once the one at j1 was taken: its place is filled by the last.
 pub fn standing1(n: usize, j1: usize, i: usize) -> usize
     requires { 0 < n }

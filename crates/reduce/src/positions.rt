@@ -3,7 +3,8 @@ ghost use Rattle.std.specs.Prelude.{◌≡◌, length};
 
 use vector::Vec3;
 
-// `room` says of the three lists what their types say, so that proofs can name it.
+// Three lists and not one of `Vec3`: definition `position_in` and record `Put` (specs/inner/Held.antt) read a list along each axis. `room` says of the
+// lists what their types say, so that proofs can name it.
 #[derive(Clone, Copy)]
 pub struct Positions {
     pub x: [f32; 64],

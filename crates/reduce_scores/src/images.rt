@@ -22,6 +22,9 @@ pub fn image_at(corners: &Corners, p: usize, normal: Vec3) -> ClipVertex
     }
 }
 
+// `from` and `n` and no `Kept`, here and in crate reduce: a probe of the C interface takes them one by one, and so do definitions `corners_in` and
+// `images_in`.
+
 // The least separation of the n candidates from corner `from` on; the largest float where there are none.
 pub fn least_separation(corners: &Corners, from: usize, n: usize) -> f32
     requires { (from ≤ 64) × (n ≤ 64) }

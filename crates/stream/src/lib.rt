@@ -2,6 +2,7 @@
 // characters of an unfinished line are held is `stream_pending`'s. Nothing here reads or writes.
 //
 // Lines are found by a scan of the part. One that lies whole in it is answered from there; only one that began in an earlier part is copied together first.
+// The room for a line, and what is held in it, stay two parameters: the records Held and Tells speak of both.
 #![tactic(auto)]
 
 ghost use Rattle.std.specs.Prelude.{List, ◌++◌, ℕ, ◌+◌, ◌≤◌, ◌<◌, length};
@@ -15,7 +16,6 @@ ghost use Rattle.stream.specs.Tells.{Tells};
 ghost use Rattle.stream.specs.Told.{line_told, told_last};
 
 use frame::lines::line_answer;
-use lists::write;
 use stream_pending::{Pending, end_line, goes_on, hold, is_nothing, line_end};
 
 // How many characters were told, what is held behind them, and how many places the answers take.
@@ -31,10 +31,7 @@ fn put_long(out: &mut [u8]) -> usize
     requires { longest_line_answer ≤ length out.old }
     ensures { Answers (hex_of (fault_of 0x24)) out.old result out.new }
 {
-    write(out, 0, b'f');
-    write(out, 1, b'f');
-    write(out, 2, b'2');
-    write(out, 3, b'4');
+    out[..4].copy_from_slice(b"ff24");
     4
 }
 

@@ -1,42 +1,33 @@
 -- The scan for a line end. Assumes nothing.
 use Prim.Native.Nat.{ℕ, suc, ◌+◌, ◌≤◌, ◌<◌}
-use mathlib.Core.Path.{◌≡◌, refl, ap, ◌∙◌}
+use mathlib.Core.Path.{◌≡◌, refl, sym, ap, ◌∙◌}
 use mathlib.Core.Bool.{Bool, true, false, cond}
 use mathlib.Core.List.{List, [], ◌∷◌, ◌++◌}
 use native.Mathlib.Numerals.{add-one}
 use native.Mathlib.Omega.{arith}
 use borrow.Author.Tests.{eq-eqb, ne_eqb, eqb-true}
 use lib.Dec.{eqb}
-use lib.ListN.{length, get_or, take, drop, drop_of_length-le}
-use lib.Seq.{drop-cons, take-suc}
+use lib.ListN.{length, get_or, take}
+use lib.Seq.{take-suc}
+use Rattle.std.specs.List.{position_or_len}
+use Rattle.std.proofs.lemmas.List.Sums.{position_or_len_is}
+use Rattle.std.proofs.lemmas.List.Recursion.{is_position_or_len}
 use Rattle.stream_pending.specs.Ends.{line_end, to_end}
 
--- no line end before i
-pub record Scanned (rest : List ℕ) (i : ℕ) : Type 0 where
-  pub from : i + to_end (drop i rest) ≡ to_end rest
-
-pub scan_none : {rest : List ℕ} → Scanned rest 0
-scan_none = record { from = omega arith }
-
-pub scan_more : {rest : List ℕ} {i : ℕ} → Scanned rest i → i < length rest → (get_or rest i 0 ≡ line_end → ⊥) → Scanned rest (i + 1)
+-- the first place whose character is a line end
+pub to_end_position : (ys : List ℕ) → to_end ys ≡ position_or_len (λ c. eqb c line_end) ys
 unfolding to_end
-scan_more {rest} {i} s h n =
-    let e : to_end (drop i rest) ≡ suc (to_end (drop (suc i) rest)) =
-    ap to_end (drop-cons rest i 0 h) ∙ ap (λ t. cond t 0 (suc (to_end (drop (suc i) rest)))) (ne_eqb (get_or rest i 0) line_end n) in
-    record { from = rw add-one (omega (arith, e, s.from)) }
+to_end_position ys = is_position_or_len to_end (λ c. eqb c line_end) refl more ys
+  where
+    more : (c : ℕ) (cs : List ℕ) → to_end (c ∷ cs) ≡ cond (eqb c line_end) 0 (1 + to_end cs)
+    more c cs = let e : suc (to_end cs) ≡ 1 + to_end cs = omega arith in ap (λ n. cond (eqb c line_end) 0 n) e
 
-pub scan_found : {rest : List ℕ} {i : ℕ} → Scanned rest i → i < length rest → get_or rest i 0 ≡ line_end → i ≡ to_end rest
-unfolding to_end
-scan_found {rest} {i} s h f =
-    let e : to_end (drop i rest) ≡ 0 =
-    ap to_end (drop-cons rest i 0 h) ∙ ap (λ t. cond t 0 (suc (to_end (drop (suc i) rest)))) (eq-eqb (get_or rest i 0) line_end f) in
-    omega (arith, e, s.from)
-
-pub scan_end : {rest : List ℕ} {i : ℕ} → Scanned rest i → length rest ≤ i → i ≡ to_end rest
-unfolding to_end
-scan_end {rest} {i} s h =
-    let e : to_end (drop i rest) ≡ 0 = ap to_end (drop_of_length-le rest h) in
-    omega (arith, e, s.from)
+-- no line end before i, and one at i unless it is the end
+pub first_end : (rest : List ℕ) (i : ℕ) → i ≤ length rest → ((k : ℕ) → k < i → get_or rest k 0 ≡ line_end → ⊥)
+    → (i < length rest → get_or rest i 0 ≡ line_end) → i ≡ to_end rest
+first_end rest i m before at =
+    sym (to_end_position rest ∙ position_or_len_is (λ c. eqb c line_end) rest i 0 m (λ k l. ne_eqb (get_or rest k 0) line_end (before k l))
+    (λ l. eq-eqb (get_or rest i 0) line_end (at l)))
 
 pub to_end_most : (ys : List ℕ) → to_end ys ≤ length ys
 unfolding to_end

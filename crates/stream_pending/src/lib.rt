@@ -21,15 +21,13 @@ pub struct Pending {
 }
 
 // The place of the first line end, or of the end.
+#[tactic(auto, using(crate::proofs::Scans::to_end_position))]
 pub fn line_end(rest: &[u8]) -> usize
     ensures { result ≡ to_end rest.now }
 {
-    for i in 0..rest.len() {
-        if rest[i] == LINE_END {
-            return i;
-        }
-    }
-    rest.len()
+    rest.iter()
+        .position(|c| *c == LINE_END)
+        .unwrap_or(rest.len())
 }
 
 pub fn is_nothing(p: Pending) -> bool

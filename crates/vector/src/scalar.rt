@@ -1,4 +1,5 @@
-// Single numbers: size, lesser, greater.
+// Single numbers: size, lesser, greater. `f32::min`, `max` and `abs` answer a NaN and a zero's sign otherwise than `min_of`, `max_of` and `abs_of`, so
+// they do not stand here.
 ghost use Rattle.std.specs.Prelude.{◌≡◌};
 ghost use Rattle.vector.specs.Scalar.{abs_of, min_of, max_of, min_int_of};
 

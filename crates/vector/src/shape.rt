@@ -46,7 +46,7 @@ pub fn get_point_support(points: [Vec3; 2], d: Vec3) -> usize
     0
 }
 
-// A vertex, and how far along the direction it lies.
+// A vertex, and how far along the direction it lies: a record of its own, since `farther_of` takes and gives it.
 #[derive(Clone, Copy)]
 pub struct Farthest {
     pub vertex: usize,

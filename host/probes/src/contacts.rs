@@ -1,6 +1,6 @@
 //! The records of cuts and picks, the doors to them, and those of their functions that need no lists.
 
-use super::{Contact, FeaturePair, HullSize, Plane, Transform, Vec3};
+use super::{Contact, FeaturePair, HullSize, Places, Plane, Transform, Vec3};
 use contact::Hull;
 
 /// The most corners of a polygon.
@@ -28,10 +28,7 @@ pub(super) mod linked {
 
     extern "C" {
         pub fn probe_clip_polygon(
-            numbers: *mut f32,
-            numbers_len: usize,
-            tags: *mut u8,
-            tags_len: usize,
+            corners: *mut Places,
             p: usize,
             n: usize,
             plane: Plane,
@@ -40,38 +37,26 @@ pub(super) mod linked {
             q: usize,
         ) -> usize;
         pub fn probe_image_at(
-            places: *const f32,
-            places_len: usize,
-            tags: *const u8,
-            tags_len: usize,
+            corners: *const Places,
             p: usize,
             normal: Vec3,
         ) -> ClipVertex;
         pub fn probe_least_separation(
-            places: *const f32,
-            places_len: usize,
-            tags: *const u8,
-            tags_len: usize,
+            corners: *const Places,
             from: usize,
             n: usize,
         ) -> f32;
         pub fn probe_touching(unit: usize, count: usize, least: f32) -> bool;
         pub fn probe_reduce_manifold_points(
             unit: usize,
-            places: *const f32,
-            places_len: usize,
-            tags: *const u8,
-            tags_len: usize,
+            corners: *const Places,
             from: usize,
             n: usize,
             normal: Vec3,
         ) -> Contact;
         pub fn probe_reduce_rounds(
             unit: usize,
-            places: *const f32,
-            places_len: usize,
-            tags: *const u8,
-            tags_len: usize,
+            corners: *const Places,
             from: usize,
             n: usize,
             normal: Vec3,
@@ -95,10 +80,7 @@ pub(super) mod linked {
             transform: Transform,
             face: usize,
             reference: Plane,
-            places: *mut f32,
-            places_len: usize,
-            tags: *mut u8,
-            tags_len: usize,
+            corners: *mut Places,
         ) -> usize;
         pub fn probe_candidates(
             numbers_a: *const f32,
@@ -114,10 +96,7 @@ pub(super) mod linked {
             transform: Transform,
             face: usize,
             vertex: usize,
-            places: *mut f32,
-            places_len: usize,
-            tags: *mut u8,
-            tags_len: usize,
+            corners: *mut Places,
         ) -> Kept;
     }
 }

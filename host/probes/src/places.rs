@@ -1,4 +1,4 @@
-//! Corners in two lists, as the library is lent them: four numbers and four bytes each. There is room for two polygons.
+//! Corners as the library is lent them: four numbers and four bytes each, in two lists of one record. There is room for two polygons.
 
 use super::contacts::linked;
 use super::{
@@ -9,6 +9,7 @@ use super::{
 const ROOM: usize = 2 * MAX_CLIP_POINTS;
 
 #[derive(Debug, Clone, Copy)]
+#[repr(C)]
 pub struct Places {
     numbers: [f32; 4 * ROOM],
     tags: [u8; 4 * ROOM],
@@ -76,10 +77,7 @@ impl Places {
         assert!(0 < n && n <= MAX_CLIP_POINTS);
         unsafe {
             linked::probe_clip_polygon(
-                self.numbers.as_mut_ptr(),
-                self.numbers.len(),
-                self.tags.as_mut_ptr(),
-                self.tags.len(),
+                self,
                 0,
                 n,
                 plane,
@@ -109,10 +107,7 @@ impl Places {
                 transform,
                 face,
                 reference,
-                self.numbers.as_mut_ptr(),
-                self.numbers.len(),
-                self.tags.as_mut_ptr(),
-                self.tags.len(),
+                self,
             )
         }
     }
@@ -142,10 +137,7 @@ impl Places {
                 transform,
                 face,
                 vertex,
-                self.numbers.as_mut_ptr(),
-                self.numbers.len(),
-                self.tags.as_mut_ptr(),
-                self.tags.len(),
+                self,
             )
         }
     }
@@ -155,10 +147,7 @@ impl Places {
         assert!(p < ROOM);
         unsafe {
             linked::probe_image_at(
-                self.numbers.as_ptr(),
-                self.numbers.len(),
-                self.tags.as_ptr(),
-                self.tags.len(),
+                self,
                 p,
                 normal,
             )
@@ -170,10 +159,7 @@ impl Places {
         assert!(kept.from <= MAX_CLIP_POINTS && kept.count <= MAX_CLIP_POINTS);
         unsafe {
             linked::probe_least_separation(
-                self.numbers.as_ptr(),
-                self.numbers.len(),
-                self.tags.as_ptr(),
-                self.tags.len(),
+                self,
                 kept.from,
                 kept.count,
             )
@@ -187,10 +173,7 @@ impl Places {
         unsafe {
             linked::probe_reduce_manifold_points(
                 unit,
-                self.numbers.as_ptr(),
-                self.numbers.len(),
-                self.tags.as_ptr(),
-                self.tags.len(),
+                self,
                 kept.from,
                 kept.count,
                 normal,
@@ -206,10 +189,7 @@ impl Places {
         unsafe {
             linked::probe_reduce_rounds(
                 unit,
-                self.numbers.as_ptr(),
-                self.numbers.len(),
-                self.tags.as_ptr(),
-                self.tags.len(),
+                self,
                 kept.from,
                 kept.count,
                 normal,

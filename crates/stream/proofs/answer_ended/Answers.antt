@@ -1,5 +1,4 @@
 -- The characters as they were read where nothing was held, or what was held and they together.
-use native.Mathlib.Omega.{arith}
 use mathlib.Core.Path.{sym, ◌∙◌}
 use Rattle.stream.proofs.Tells.{answer_most, answers_whole}
 use Rattle.stream.proofs.answer_ended.Goals as goal

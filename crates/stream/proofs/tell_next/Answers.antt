@@ -1,6 +1,5 @@
 -- A line that ends, or what there is of it.
 use native.Mathlib.Omega.{arith}
-use lib.ListN.{length-take}
 use Rattle.stream_pending.proofs.Scans.{to_end_most}
 use Rattle.stream.proofs.Tells.{tells_line, tells_rest}
 use Rattle.stream.proofs.tell_next.Goals as goal

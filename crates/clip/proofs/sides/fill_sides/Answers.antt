@@ -8,16 +8,16 @@ use Rattle.clip.proofs.sides.fill_sides.Goals as goal
 
 pub returns-then-e-start : goal.returns-then-e-start
 unfolding sides_from
-returns-then-e-start c = fill_back _ _ _ _ _ _ _ _ _ c.loop-k.invariant
-    c.loop-k-test.true _ c.side_plane.ensures _ refl _ c.next_of-e.ensures c.if-e-start.true
+returns-then-e-start c = fill_back _ _ _ _ _ _ _ _ _ c.loop-side.invariant
+    c.loop-side-test.true _ c.side_plane.ensures _ refl _ c.next_of-e.ensures c.if-e-start.true
 
-pub loop-k-preserved : goal.loop-k-preserved
-loop-k-preserved c = let i = c.loop-k.invariant in
-    fill_goes _ _ _ _ _ _ _ _ _ i c.loop-k-test.true _
+pub loop-side-preserved : goal.loop-side-preserved
+loop-side-preserved c = let i = c.loop-side.invariant in
+    fill_goes _ _ _ _ _ _ _ _ _ i c.loop-side-test.true _
     c.side_plane.ensures _ refl _ c.next_of-e.ensures c.if-e-start.false
     (at_next _ _ _ c.requires.0 _ i.low _
     c.next_of-e.ensures).1
 
 pub returns : goal.returns
 unfolding sides_from
-returns c = fill_ends _ _ _ _ _ _ _ _ _ c.loop-k.invariant (omega arith)
+returns c = fill_ends _ _ _ _ _ _ _ _ _ c.loop-side.invariant (omega arith)

@@ -1,19 +1,8 @@
--- `planes_right`: before each turn, ok tells whether all planes so far are right.
-use mathlib.Core.Path.{sym, ap₂, ◌∙◌}
-use native.Mathlib.Omega.{arith}
-use Rattle.hull_links.proofs.Tests.{all_none, all_and, all_end}
-use Rattle.hull_limits.specs.Measures.{plane_right}
+-- `planes_right`: what the closure answers is the definition's own expression.
+use borrow.Author.Rules.{rules}
 use Rattle.hull.specs.Rule8.{plane_right_at}
 use Rattle.hull.proofs.rule8.planes_right.Goals as goal
 
-pub loop-i-init : goal.loop-i-init
-loop-i-init c = sym (all_none _)
-
-pub loop-i-preserved : goal.loop-i-preserved
-unfolding plane_right_at
-loop-i-preserved c =
-    let l = c.before.before.before in
-    all_and _ _ _ _ l.loop-i.invariant (c.plane_right-ok.ensures ∙ ap₂ plane_right l.offset_limit-limit.ensures c.plane_at.ensures)
-
 pub returns : goal.returns
-returns c = all_end _ _ _ _ (omega arith) (omega arith) c.loop-i.invariant
+unfolding plane_right_at
+returns c = c.every.ensures _ (λ k b h q. search rules)

@@ -2,4 +2,4 @@
 use Rattle.manifold.proofs.records.empty_contact.Goals as goal
 
 pub returns : goal.returns
-returns c = simp c.unused_point-unused.ensures
+returns c = simp c.unused_point.ensures

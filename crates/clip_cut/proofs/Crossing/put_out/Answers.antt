@@ -1,6 +1,6 @@
 -- Six ways through the tests, one for each arm of the definition.
 use Rattle.clip_cut.proofs.Cutting.{out_kept, out_leaving, out_entering, out_none_1, out_none_2, out_none_3}
-use Rattle.clip_cut.proofs.put_out.Goals as goal
+use Rattle.clip_cut.proofs.Crossing.put_out.Goals as goal
 
 pub returns-then-d2 : goal.returns-then-d2
 returns-then-d2 c = out_kept _ _ _ _ _ _ _ _ _ _ _ _ _ c.if-d1.true

@@ -1,6 +1,6 @@
 -- One quotient, then one vector sum.
 use Rattle.clip_cut.specs.Cut.{meeting_of}
-use Rattle.clip_cut.proofs.meeting.Goals as goal
+use Rattle.clip_cut.proofs.Crossing.meeting.Goals as goal
 
 pub returns : goal.returns
 unfolding meeting_of
