@@ -1,11 +1,12 @@
 -- A polygon whose corners are all kept: the cut leaves it as it is, and the loop that tries them. Assumes nothing.
-use Prim.Native.Nat.{ℕ, suc, ◌+◌, ◌-◌, ◌≤◌, ◌<◌}
+use Prim.Native.Nat.{ℕ, suc, ◌+◌, ◌-◌, ◌*◌, ◌≤◌, ◌<◌}
 use mathlib.Core.Path.{◌≡◌, refl, ap}
 use mathlib.Core.Bool.{Bool, true, false, cond, false≢true}
 use mathlib.Core.List.{List, [], ◌∷◌}
 use native.Mathlib.Omega.{arith}
 use native.Mathlib.Nat.{add-zero}
-use lib.Ieee.{Float}
+use lib.ListN.{get_or}
+use lib.Ieee.{Float, nan}
 use Rattle.vector.specs.declared.Plane.{Plane}
 use Rattle.vector.specs.Shape.{plane_separation_of}
 use Rattle.manifold.specs.declared.ClipVertex.{ClipVertex}
@@ -55,15 +56,18 @@ module _ (n : List Float) (p m : ℕ) (plane : Plane) where
       record { left = λ (t : List ℕ). rw (z, add-zero p) refl }
 
   module _ (i : ℕ) (c : Keeping i) where
-    -- corner i, and those behind it: a corner's tag is not read, so any tags may stand there
-    module _ (h : i < m) (u : List ℕ) (v : ClipVertex) (at : v ≡ corner_in n u (p + i)) (d : Float) (is : d ≡ plane_separation_of plane v.position)
-        (t : List ℕ) where
+    -- corner i, and those behind it
+    module _ (h : i < m) (d : Float) (is : d ≡ plane_separation_of plane (record {
+      x = get_or n (4 * (p + i)) nan;
+      y = get_or n (4 * (p + i) + 1) nan;
+      z = get_or n (4 * (p + i) + 2) nan;
+    })) (t : List ℕ) where
       split : cond (kept d) (all_kept plane (corners_in n t (p + (i + 1)) (m - (i + 1)))) false ≡ all_kept plane (corners_in n t p m)
       unfolding all_kept corners_in corner_in
       split =
           let a : m - i ≡ suc (m - (i + 1)) = omega arith in
           let b : p + i + 1 ≡ p + (i + 1) = omega arith in
-          rw (is, at, ← b) (rw a at (c.left t))
+          rw (is, ← b) (rw a at (c.left t))
 
       pub keep_stops : kept d ≡ false → false ≡ all_kept plane (corners_in n t p m)
       keep_stops k = rw k at split
@@ -71,9 +75,12 @@ module _ (n : List Float) (p m : ℕ) (plane : Plane) where
       still : kept d ≡ true → all_kept plane (corners_in n t (p + (i + 1)) (m - (i + 1))) ≡ all_kept plane (corners_in n t p m)
       still k = rw k at split
 
-    pub keep_goes : i < m → (u : List ℕ) (v : ClipVertex) → v ≡ corner_in n u (p + i) → (d : Float) → d ≡ plane_separation_of plane v.position
-        → kept d ≡ true → Keeping (i + 1)
-    keep_goes h u v at d is k = record { left = λ (t : List ℕ). still h u v at d is t k }
+    pub keep_goes : i < m → (d : Float) → d ≡ plane_separation_of plane (record {
+      x = get_or n (4 * (p + i)) nan;
+      y = get_or n (4 * (p + i) + 1) nan;
+      z = get_or n (4 * (p + i) + 2) nan;
+    }) → kept d ≡ true → Keeping (i + 1)
+    keep_goes h d is k = record { left = λ (t : List ℕ). still h d is t k }
 
     pub keep_ends : m ≤ i → (t : List ℕ) → true ≡ all_kept plane (corners_in n t p m)
     unfolding all_kept corners_in

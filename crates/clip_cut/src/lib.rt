@@ -138,13 +138,18 @@ pub fn clip_polygon(
 
 // Whether a cut by this plane leaves the polygon of n corners from corner p on as it is: all its corners are kept. Whatever their tags, which are
 // not read.
-pub fn keeps_all(corners: &Corners, p: usize, n: usize, plane: Plane) -> bool
+pub fn keeps_all(numbers: &[f32; 512], p: usize, n: usize, plane: Plane) -> bool
     requires { (p ≤ 64) × (n ≤ 64) }
-    ensures { (t : List ℕ) → result ≡ all_kept plane (corners_in corners.now.numbers t p n) }
+    ensures { (t : List ℕ) → result ≡ all_kept plane (corners_in numbers.now t p n) }
 {
     for i in 0..n {
-        let v = corners.corner_at(p + i);
-        let d = plane_separation(plane, v.position);
+        let a = 4 * (p + i);
+        let position = Vec3 {
+            x: numbers[a],
+            y: numbers[a + 1],
+            z: numbers[a + 2],
+        };
+        let d = plane_separation(plane, position);
         if !(d <= 0.0) {
             return false;
         }
@@ -166,7 +171,7 @@ pub fn cut_side(
     ensures { Standing corners.new.numbers corners.new.tags (cut_of plane edge reference (corners_in corners.old.numbers corners.old.tags p n)) result
         × Half result.from }
 {
-    if keeps_all(corners, p, n, plane) {
+    if keeps_all(&corners.numbers, p, n, plane) {
         return Kept { from: p, count: n };
     }
     let q = 64 - p;

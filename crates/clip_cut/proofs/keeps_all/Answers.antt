@@ -5,11 +5,11 @@ use Rattle.clip_cut.proofs.keeps_all.Goals as goal
 
 pub returns-then-not-d : goal.returns-then-not-d
 returns-then-not-d c t = keep_stops _ _ _ _ _ c.loop-i.invariant
-    c.loop-i-test.true _ _ c.corner_at-v.ensures _ c.plane_separation-d.ensures t (c.if-not-d.true)
+    c.loop-i-test.true _ c.plane_separation-d.ensures t (c.if-not-d.true)
 
 pub loop-i-preserved : goal.loop-i-preserved
 loop-i-preserved c = keep_goes _ _ _ _ _ c.loop-i.invariant
-    c.loop-i-test.true _ _ c.corner_at-v.ensures _ c.plane_separation-d.ensures (c.if-not-d.false)
+    c.loop-i-test.true _ c.plane_separation-d.ensures (c.if-not-d.false)
 
 pub returns : goal.returns
 returns c = keep_ends _ _ _ _ _ c.loop-i.invariant (omega arith)
