@@ -94,7 +94,14 @@ pub fn clip_to_face(
 {
     let reference = hull::plane_at(a, face);
     let start = a.face_edge(face);
-    let mut sides = [reference; 16];
+    let mut sides = [Plane {
+        normal: Vec3 {
+            x: 0.0,
+            y: 0.0,
+            z: 0.0,
+        },
+        offset: 0.0,
+    }; 16];
     fill_sides(a, start, start, reference.normal, &mut sides);
     let mut n = build_polygon(b, transform, incident, reference, corners);
     let mut p = 0;

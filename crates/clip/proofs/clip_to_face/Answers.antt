@@ -1,6 +1,6 @@
 -- The loop keeps `Round` and `Ahead`: what the cuts so far leave, cut by the sides that are left, is what all cuts leave; and the sides that come
 -- next stand in the batch.
-use lib.ListN.{length-replicate}
+use mathlib.Core.Path.{refl}
 use Rattle.hull_links.specs.Links.{face_ring}
 use Rattle.clip_corners.specs.Places.{corners_in}
 use Rattle.clip.specs.Candidates.{cut_round}
@@ -31,7 +31,7 @@ unfolding sides_from
 loop-reference-init c = (
   round_begins _ _ _ c.requires.0 _ c.requires.2 _ c.face_edge-start.ensures _ _ _ _
       (begun _ _ _ _ _ _ _ _ _ _ _ c.args.corners.now.room c.build_polygon-n.ensures),
-  ahead_filled _ _ _ _ _ _ (length-replicate 16 c.plane_at-reference.result) c.fill_sides.ensures,
+  ahead_filled _ _ _ _ _ _ refl c.fill_sides.ensures,
 )
 
 pub returns-then-kept-gt64 : goal.returns-then-kept-gt64
