@@ -22,4 +22,4 @@ coordinate xs from i k = let place : from + i + 4 * k ≡ from + 4 * k + i = ome
 
 -- a fill has every shorter one
 pub fewer : {g : ℕ → Float} {at n : ℕ} {was is : List Float} (m : ℕ) → m ≤ n → Filled g at n was is → Filled g at m was is
-fewer m h a = record { long = a.long; kept = a.kept; made = λ k q. a.made k (omega (arith, q, h)) }
+fewer m h a = record { long = a.long; kept = λ k q. a.kept k (omega (arith, q)); made = λ k q. a.made k (omega (arith, q, h)) }

@@ -33,8 +33,8 @@ fn fill<F: Fn(usize) -> f32>(f: F, n: usize, out: &mut [f32], at: usize)
     requires callable { (k : ℕ) → k < n → F.pre f k }
     ensures { Given (F.post f) at n out.old out.new }
 {
-    for i in 0..n {
-        out[at + i] = f(i);
+    for k in 0..n {
+        out[at + k] = f(k);
     }
 }
 
