@@ -64,6 +64,9 @@ module _ (fails : ℕ → Bool) where
   bounded i count marks m = omega (arith, m.counted, few_pass i)
 
   -- ---- what the marks tell
+  pub small : (n count : ℕ) (marks : List ℕ) → Marked fails n count marks → (k : ℕ) → k < n → get_or marks k 0 ≤ 1
+  small n count marks m k h = subst (λ (x : ℕ). x ≤ 1) (sym (m.each k h)) (bit (fails k))
+
   pub told : (n count : ℕ) (marks : List ℕ) → Marked fails n count marks → (k : ℕ) → k < n → unmarked marks k ≡ fails k
   unfolding unmarked
   told n count marks m k h = ap (λ (x : ℕ). eqb x 0) (m.each k h) ∙ by (fails k)
