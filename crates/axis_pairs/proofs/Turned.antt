@@ -1,14 +1,15 @@
 -- The edges of B from the lists are the edges of the definition, so the searches are the same; and what the scan asks for stands. Assumes nothing.
-use Prim.Native.Nat.{ℕ, ◌+◌, ◌*◌, ◌<◌, ◌≤◌}
+use Prim.Native.Nat.{ℕ, ◌+◌, ◌*◌, ◌/◌, ◌<◌, ◌≤◌}
 use mathlib.Core.Path.{◌≡◌, ap, ◌∙◌}
 use mathlib.Core.Bool.{false}
 use mathlib.Core.List.{List}
 use native.Mathlib.Omega.{arith}
+use lib.ListN.{length}
 use lib.Ieee.{Float}
 use Rattle.vector.specs.declared.Vec3.{Vec3}
 use Rattle.rotation.specs.Rotation.{Rows}
 use Rattle.hull_links.specs.declared.HullSize.{HullSize}
-use Rattle.hull_links.specs.Links.{origin, face}
+use Rattle.hull_links.specs.Links.{origin, face, NumbersFit}
 use Rattle.hull.specs.Numbers.{vertex_at, plane_at}
 use Rattle.axis_best.specs.declared.Lead.{Lead}
 use Rattle.axis_best.specs.Leads.{none_of, lead_after}
@@ -18,7 +19,7 @@ use Rattle.axis_edges.specs.Edges.{difference_of, turned_normal, turned_point, e
 use Rattle.axis_pairs.specs.All.{all_pairs}
 use Rattle.axis_edges.specs.inner.Ready.{EdgesIn}
 use Rattle.axis_lists.specs.inner.Lists.{Three}
-use Rattle.axis_pairs.specs.inner.Pairs.{edge_in}
+use Rattle.axis_pairs.specs.inner.Pairs.{edge_in, ScanReady}
 
 abbrev made : Vec3 → Vec3 → Vec3 → Vec3 → Edge
 made c d from to = record { normal0 = c; normal1 = d; direction = difference_of to from; vertex = from }
@@ -57,3 +58,10 @@ module _ (r : Rows) (p : Vec3) (s : HullSize) (n : List Float) (l : List ℕ) (t
   pairs_same unit a count m x e h =
       e ∙ same_steps (λ j. row_pairs unit a count (edge_in turned points s l j) j) (λ j. row_pairs unit a count (edge_of_b r p s n l j) j) none_of m
       (λ j q t. ap (λ (b : Edge). row_pairs unit a count b j t) (edge_same j (omega (arith, q, h))))
+
+-- what the scan asks for, from what the lists hold
+pub scan_ready : (s : HullSize) (n : List Float) (l : List ℕ) (normals turned points : List Float) (t : HullSize) (k : List ℕ) → NumbersFit s n → EdgesIn s l
+    → Three (λ f. (plane_at s n f).normal) s.faces normals → length turned ≡ 384 → length points ≡ 384 → EdgesIn t k
+    → ScanReady s n l (s.half_edges / 2) normals turned points t k (t.half_edges / 2)
+scan_ready s n l normals turned points t k a b c d e f =
+    record { fit = a; edges_in = b; few = omega arith; normals_stand = c; turned_long = d; points_long = e; other_in = f; other_few = omega arith }
