@@ -84,6 +84,15 @@ pub struct State {
     pub read: bool,
 }
 
+impl State {
+    // Whether no turn comes after this one: the input ended, or a write failed. Else there is one.
+    fn is_last(&self) -> bool
+        ensures { (self.now.to ≡ 0 → result ≡ true) × (self.now.ok ≡ false → result ≡ true) × (0 < self.now.to → self.now.ok ≡ true → result ≡ false) }
+    {
+        self.to == 0 || !self.ok
+    }
+}
+
 // At most one read, what is told of what there is, and at most one write.
 fn turn_once<R: Read, W: Write>(
     input: &mut R,
@@ -192,7 +201,7 @@ fn run<R: Read, W: Write>(
     };
     for _ in 0..u64::MAX {
         s = turn_once(input, output, chunk, line, out, s);
-        if s.to == 0 || !s.ok {
+        if s.is_last() {
             break;
         }
     }

@@ -1,10 +1,9 @@
 -- Turn by turn what was read is told, held or left, and at the end of the input all of it is told.
-use Rattle.std.proofs.Common.{refl, ap, true, ◌≡◌}
-use mathlib.Core.Bool.{not}
+use Rattle.std.proofs.Common.{refl, true, ◌≡◌}
 use native.Mathlib.Omega.{arith}
 use Rattle.stream_pending.proofs.Holds.{held_none, differ}
 use Rattle.contact.proofs.Runs.{Stands, stands_more, nothing_yet, sure, whole}
-use Rattle.contact.proofs.run.Goals.{else-loop-test, then-loop-test+then-s-eq0}
+use Rattle.contact.proofs.run.Goals.{else-loop-test, then-loop-test+then-is_last}
 use Rattle.contact.proofs.run.Goals as goal
 
 pub loop-init : goal.loop-init
@@ -21,7 +20,7 @@ loop-init g c = (
 pub loop-preserved : goal.loop-preserved
 loop-preserved g c = let i = c.loop.invariant in let t = c.turn_once-s in (
   stands_more _ _ i.0 i.1 t.ensures.turned t.ensures.arrives t.ensures.leaves t.auto.chunk t.auto.out,
-  sure _ (λ e. differ (ap not e) c.if-not-s.false),
+  sure _ (λ e. differ (c.is_last.ensures.1 e) c.if-is_last.false),
 )
 
 pub finish-last-requires : goal.finish-last-requires
@@ -31,7 +30,7 @@ finish-last-requires g c =
     (g.W.Write.contents c.loop-test.output) c.args.chunk.now c.args.out.now c.loop-test.chunk c.loop-test.line c.loop-test.out c.loop-test.s =
     elim c.loop-test.branch [
       | else-loop-test w ↦ rw (w.input-is, w.output-is, w.chunk-is, w.line-is, w.out-is, w.s-is) i.0
-      | then-loop-test+then-s-eq0 w ↦ rw (w.input-is, w.output-is, w.chunk-is, w.line-is, w.out-is, w.s-is)
+      | then-loop-test+then-is_last w ↦ rw (w.input-is, w.output-is, w.chunk-is, w.line-is, w.out-is, w.s-is)
           (let t = w.turn_once-s in stands_more _ _ i.0 i.1 t.ensures.turned t.ensures.arrives t.ensures.leaves t.auto.chunk t.auto.out)
     ] in
     (stands.fits.ready, omega (arith, stands.out_room, c.requires.1))
@@ -43,7 +42,7 @@ returns-clause-whole g c = λ r a.
     (g.W.Write.contents c.loop-test.output) c.args.chunk.now c.args.out.now c.loop-test.chunk c.loop-test.line c.loop-test.out c.loop-test.s =
     elim c.loop-test.branch [
       | else-loop-test w ↦ rw (w.input-is, w.output-is, w.chunk-is, w.line-is, w.out-is, w.s-is) i.0
-      | then-loop-test+then-s-eq0 w ↦ rw (w.input-is, w.output-is, w.chunk-is, w.line-is, w.out-is, w.s-is)
+      | then-loop-test+then-is_last w ↦ rw (w.input-is, w.output-is, w.chunk-is, w.line-is, w.out-is, w.s-is)
           (let t = w.turn_once-s in stands_more _ _ i.0 i.1 t.ensures.turned t.ensures.arrives t.ensures.leaves t.auto.chunk t.auto.out)
     ] in
     let w = c.ended_well.ensures.0 a in
