@@ -2,10 +2,10 @@
 // again. What each says is in specs/.
 #![tactic(auto)]
 
-ghost use Rattle.std.specs.Prelude.{◌≡◌, Ok};
+ghost use Rattle.std.specs.Prelude.{◌≡◌, ℕ, Ok};
 ghost use Rattle.collide_outcome.specs.Builds.{touched_of, missed};
-ghost use Rattle.collide_outcome.specs.Told.{number_of, built_of, cached_of};
-ghost use Rattle.collide_outcome.specs.Answers.{retired_of, accepted, refused_of, answer_of};
+ghost use Rattle.collide_outcome.specs.Told.{number_of, built_by, built_of, cached_by, answer_to};
+ghost use Rattle.collide_outcome.specs.Answers.{retired_of, accepted, refused_of};
 ghost use Rattle.collide_outcome.specs.Served.{near_of, served_of};
 
 use manifold::bits::float_of;
@@ -115,9 +115,9 @@ pub fn refused(status: u8, cache: SatCache) -> Answer
     }
 }
 
-// What was built, with the mark of the type that was read; or the refusal that the work met.
-pub fn answer_of(cache: SatCache, built: Result<Build, Refusal>) -> Answer
-    ensures { result ≡ answer_of cache (built_of built) }
+// What was built, with the mark of the type that was read; or the refusal that the work met, by its number, whatever number it is.
+pub fn answer_of(cache: SatCache, built: Result<Build, u8>) -> Answer
+    ensures { result ≡ answer_to cache built }
 {
     match built {
         Ok(build) => {
@@ -125,7 +125,7 @@ pub fn answer_of(cache: SatCache, built: Result<Build, Refusal>) -> Answer
             let next = build.cache;
             accepted_with(retired_mark(cache.kind), contact, next)
         }
-        Err(refusal) => refused(u8::from(refusal), cache),
+        Err(status) => refused(status, cache),
     }
 }
 
@@ -137,17 +137,22 @@ fn near(unit: usize, cache: SatCache, fresh: SatCache) -> bool
     abs_float(difference) < units::linear_slop(unit)
 }
 
-// The contact that was built anew, where it may stand for the cached axis; nothing where the full search has to be made.
-pub fn served(
+// The contact that was built anew, where it may stand for the cached axis; nothing where the full search has to be made. A refusal stays one, whatever
+// type it has and whatever number it is told by: an arm of its own and no `?`, so that must-fail/refusal_taken_for_a_miss.edit can plant a miss there.
+pub fn served<R: Copy>(
     unit: usize,
     cache: SatCache,
-    built: Result<Build, Refusal>,
-) -> Result<Option<Contact>, Refusal>
-    ensures { cached_of result ≡ served_of unit cache (built_of built) }
+    built: Result<Build, R>,
+) -> Result<Option<Contact>, R>
+    ensures { (number : R → ℕ) → cached_by number result ≡ served_of unit cache (built_by number built) }
 {
-    let build = built?;
-    if near(unit, cache, build.cache) {
-        return Ok(build.contact);
+    match built {
+        Ok(build) => {
+            if near(unit, cache, build.cache) {
+                return Ok(build.contact);
+            }
+            Ok(None)
+        }
+        Err(refusal) => Err(refusal),
     }
-    Ok(None)
 }

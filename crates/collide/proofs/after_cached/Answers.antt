@@ -7,7 +7,7 @@ use Rattle.collide_outcome.specs.Builds.{Built}
 use Rattle.collide_outcome.specs.Answers.{accepted, refused_of, answer_of}
 use Rattle.collide_outcome.specs.Told.{cached_of}
 use Rattle.collide_outcome.specs.Served.{hit_with, no_hit}
-use Rattle.collide_outcome.proofs.Told.{refusal_is_told, hit_is, none_is}
+use Rattle.collide_outcome.proofs.Told.{refusal_is_told, hit_is, none_is, answer_is}
 use Rattle.collide.specs.Call.{after_cached}
 use Rattle.collide.proofs.Steps.{cached_refused, cached_hit, cached_missed}
 use Rattle.collide.proofs.after_cached.Goals as goal
@@ -27,6 +27,7 @@ returns-in-Ok-Some c = let g = c.args in let a = g.a.now in let b = g.b.now in l
 
 pub returns-in-Ok-None : goal.returns-in-Ok-None
 returns-in-Ok-None c = let g = c.args in let a = g.a.now in let b = g.b.now in let w = c.in-Ok-None in
-    c.answer_of.ensures ∙ ap (λ (built : Built). answer_of g.cache built) c.full_search.ensures
+    c.answer_of.ensures ∙ answer_is g.cache c.full_search-built.result c.numbered.result c.numbered.ensures
+    ∙ ap (λ (built : Built). answer_of g.cache built) c.full_search-built.ensures
     ∙ cached_missed a.size a.numbers.now a.links.now b.size b.numbers.now b.links.now g.transform g.cache (no_hit 0) refl refl
     ∙ ap (after_cached a.size a.numbers.now a.links.now b.size b.numbers.now b.links.now g.transform g.cache) (sym (none_is _ _ w.is (rw w.is at w.field-0-is)))

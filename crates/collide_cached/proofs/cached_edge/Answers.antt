@@ -2,6 +2,7 @@
 use mathlib.Core.Path.{refl}
 use native.Mathlib.Omega.{arith}
 use Rattle.collide_cached.proofs.Cases.{pass_by, edge_far, edge_close}
+use Rattle.collide_outcome.specs.Told.{number_of}
 use Rattle.collide_cached.proofs.cached_edge.Goals as goal
 
 pub returns-then-not-crosses : goal.returns-then-not-crosses
@@ -24,4 +25,4 @@ pub returns : goal.returns
 returns c = let meet = c.if-not-crosses.false in
     edge_close _ _ _ _ _ _ _ _ _ c.ridge_of-ridge_a.ensures _ c.carried_ridge-ridge_b.ensures _ c.crosses.ensures meet
     _ c.axis_between-axis.ensures _ c.sub.ensures _ c.dot.ensures _ c.speculative_distance.ensures
-    c.if-dot-speculative_distance.false _ c.neg.ensures _ c.build_edge_contact-built.ensures _ c.served.ensures
+    c.if-dot-speculative_distance.false _ c.neg.ensures _ c.build_edge_contact-built.ensures _ (c.served.ensures number_of)

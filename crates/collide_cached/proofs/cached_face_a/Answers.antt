@@ -4,6 +4,7 @@ use mathlib.Core.Path.{refl}
 use Rattle.rotation.specs.Rotation.{inv_rotate_of, transform_point_of}
 use Rattle.collide_cached.specs.Again.{deepest_below_a, separation_from_a}
 use Rattle.collide_cached.proofs.Cases.{at_support, support_byte, is_deepest, off_face, a_far, a_close}
+use Rattle.collide_outcome.specs.Told.{number_of}
 use Rattle.collide_cached.proofs.cached_face_a.Goals as goal
 
 pub vertex_at-requires : goal.vertex_at-requires
@@ -32,4 +33,4 @@ returns c =
     let vertex = is_deepest a.size a.numbers.now b.size b.numbers.now (inv_rotate_of g.transform.q) (transform_point_of g.transform) g.cache.index_a
     _ c.plane_at-plane.ensures _ c.inv_rotate_vector.ensures _ c.neg-direction.ensures _ c.support_vertex-vertex.ensures in
     a_close _ _ _ _ _ _ _ _ _ test c.if-plane_separation-speculative_distance.false _ vertex _ c.build_face_a_contact-built.ensures
-    _ c.served.ensures
+    _ (c.served.ensures number_of)

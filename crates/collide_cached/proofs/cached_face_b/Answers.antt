@@ -4,6 +4,7 @@ use mathlib.Core.Path.{refl}
 use Rattle.rotation.specs.Rotation.{inv_transform_point_of, rotate_of}
 use Rattle.collide_cached.specs.Again.{deepest_below_b, separation_from_b}
 use Rattle.collide_cached.proofs.Cases.{at_support, support_byte, is_deepest, off_face, b_far, b_close}
+use Rattle.collide_outcome.specs.Told.{number_of}
 use Rattle.collide_cached.proofs.cached_face_b.Goals as goal
 
 pub vertex_at-requires : goal.vertex_at-requires
@@ -32,4 +33,4 @@ returns c =
     let vertex = is_deepest b.size b.numbers.now a.size a.numbers.now (rotate_of g.transform.q) (inv_transform_point_of g.transform) g.cache.index_b
     _ c.plane_at-plane.ensures _ c.rotate_vector.ensures _ c.neg-direction.ensures _ c.support_vertex-vertex.ensures in
     b_close _ _ _ _ _ _ _ _ _ test c.if-plane_separation-speculative_distance.false _ vertex _ c.build_face_b_contact-built.ensures
-    _ c.served.ensures
+    _ (c.served.ensures number_of)

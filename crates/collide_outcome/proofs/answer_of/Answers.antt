@@ -1,9 +1,9 @@
 -- `answer_of`: what was built, or the refusal, picks the definition's case.
 use Prim.Native.Nat.{ℕ}
-use mathlib.Core.Path.{ap, ap₂, ◌∙◌}
+use mathlib.Core.Path.{ap₂, ◌∙◌}
 use Rattle.manifold.specs.declared.Contact.{Contact}
-use Rattle.collide_outcome.specs.Answers.{accepted, refused_of}
-use Rattle.collide_outcome.proofs.Told.{contact_is, accepted_built, refused_built}
+use Rattle.collide_outcome.specs.Answers.{accepted}
+use Rattle.collide_outcome.proofs.Told.{contact_is, accepted_built}
 use Rattle.collide_outcome.proofs.answer_of.Goals as goal
 
 pub returns-in-Ok : goal.returns-in-Ok
@@ -14,5 +14,4 @@ returns-in-Ok c =
     ∙ accepted_built c.args.cache c.in-Ok.build)
 
 pub returns-in-Err : goal.returns-in-Err
-returns-in-Err c =
-    rw c.in-Err.is (c.refused.ensures ∙ ap (λ (n : ℕ). refused_of n c.args.cache) c.from.ensures ∙ refused_built c.args.cache c.in-Err.refusal)
+returns-in-Err c = rw c.in-Err.is c.refused.ensures
