@@ -85,7 +85,7 @@ pub struct State {
 }
 
 impl State {
-    // Whether no turn comes after this one: the input ended, or a write failed. Else there is one.
+    // Whether no turn comes after this one: the input ended or could not be read, or a write failed.
     fn is_last(&self) -> bool
         ensures { (self.now.to ≡ 0 → result ≡ true) × (self.now.ok ≡ false → result ≡ true) × (0 < self.now.to → self.now.ok ≡ true → result ≡ false) }
     {
