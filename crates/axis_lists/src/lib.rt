@@ -27,7 +27,7 @@ pub fn vector_in(lists: &[f32], k: usize) -> Vec3
     }
 }
 
-// A stretch of a list: at the place at + i what `f` gives for i. Each caller's function is inlined, so the loop has one store and no branch.
+// A stretch of a list: at the place at + k what `f` gives for k. Each caller's function is inlined, so the loop has one store and no branch.
 fn fill<F: Fn(usize) -> f32>(f: F, n: usize, out: &mut [f32], at: usize)
     requires room { at + n ≤ length out.old }
     requires callable { (k : ℕ) → k < n → F.pre f k }

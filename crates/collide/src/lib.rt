@@ -22,7 +22,8 @@ use manifold::records::{empty_contact, hit_set};
 use manifold::{Answer, SatCache};
 use vector::Transform;
 
-// What was built, its refusal by its number.
+// What was built, its refusal by its number. By `map_err(u8::from)` nothing would be known of the number: a function that is handed on takes its clauses
+// from the trait.
 fn numbered(built: Result<Build, Refusal>) -> Result<Build, u8>
     ensures { MatchResult built (λ build. result ≡ Ok build) (λ refusal. result ≡ Err (number_of refusal)) }
 {
@@ -64,8 +65,7 @@ fn retried(a: &Hull, b: &Hull, transform: Transform, cache: SatCache, corners: &
     ensures { cached_of result ≡ retried_of a.now.size a.now.numbers.now a.now.links.now b.now.size b.now.numbers.now
         b.now.links.now transform cache }
 {
-    let kind = cache.kind;
-    match kind {
+    match cache.kind {
         0 | 1 | 5..=255 => Ok(None),
         2 => cached_face_a(a, b, transform, cache, corners),
         3 => cached_face_b(a, b, transform, cache, corners),
